@@ -1,0 +1,5 @@
+pub mod command;
+pub mod lines;
+mod numbers;
+pub mod reading;
+pub mod vetting;

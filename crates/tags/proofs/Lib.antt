@@ -1,0 +1,3 @@
+mod Bytes
+mod Closing
+pub mod Forms

@@ -1,0 +1,4 @@
+pub mod refusal;
+pub mod tag;
+#[cfg(test)]
+mod tests;
