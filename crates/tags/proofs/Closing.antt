@@ -1,5 +1,5 @@
 -- the closing byte, and the zeros behind it
-use mathlib.Core.Path.{_≡_, sym, ap, _∙_}
+use mathlib.Core.Path.{_≡_, sym}
 use mathlib.Core.List.{List, [], _∷_, _++_}
 use Prim.Native.Nat.{ℕ, suc, _-_, _≤_}
 use native.Mathlib.Omega.{arith}
@@ -11,5 +11,4 @@ pub closed : (tag front : List ℕ) → front ≡ tag → length tag ≤ 200 →
 unfolding spelled
 closed tag front e h =
     let n : 201 - (length tag - 0) ≡ suc (200 - length tag) = omega arith in
-    let z : drop {A = ℕ} (length tag - 0) (replicate 201 0) ≡ replicate (suc (200 - length tag)) 0 = drop-replicate (length tag - 0) 201 0 ∙ ap (λ (k : ℕ). replicate k 0) n in
-    rw (e, z) (sym (append-assoc tag (0 ∷ []) (replicate (200 - length tag) 0)))
+    rw (e, drop-replicate {X = ℕ} (length tag - 0) 201 0, n) (sym (append-assoc tag (0 ∷ []) (replicate (200 - length tag) 0)))

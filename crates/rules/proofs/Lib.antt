@@ -1,0 +1,19 @@
+pub mod Steps
+pub mod Bytes
+pub mod Shared
+pub mod Rows
+pub mod Kept
+pub mod Places
+pub mod Looking
+pub mod Descent
+pub mod Entering
+pub mod Grow
+pub mod Together
+pub mod Moves
+pub mod Climbing
+pub mod Agreement
+pub mod Turns
+pub mod Rooms
+pub mod Values
+pub mod Finds
+mod Cases
