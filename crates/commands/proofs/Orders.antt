@@ -10,7 +10,7 @@ use Rattle.std.proofs.shelf.Lists.{take-all}
 use Rattle.std.proofs.shelf.Tests.{eq-eqb, ne-eqb}
 use Rattle.commands.specs.Lines.{placeOf}
 use Rattle.commands.specs.Numbers.{number}
-use Rattle.commands.specs.Commands.{Priced, Order, double, spaced, afterSpace, pricedWith, pricedTag, orderBy, orderIn}
+use Rattle.commands.specs.Commands.{Order, double, spaced, afterSpace, pricedWith, pricedTag, orderBy, orderIn}
 
 -- the rest of a list as the code has it
 rest-is : (b : ℕ) (text : List ℕ) → take (length (b ∷ text) - 1) text ≡ text

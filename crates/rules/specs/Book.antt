@@ -112,7 +112,7 @@ rowOf (r ∷ rs) tag = elim (sameWord (r .tag) tag) [
   | false ↦ elim (rowOf rs tag) [ None ↦ None | Some j ↦ Some (suc j) ]
 ]
 
--- a tag that arrives, with its value or struck: one in no row becomes the last row
+-- a tag that arrives, with its value or struck: one in no row becomes the last row, and one in a row changes nothing
 pub record Arrival (V : Type 0) : Type 0 where
   pub tag : List ℕ
   pub value : Option V

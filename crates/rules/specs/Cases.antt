@@ -8,11 +8,11 @@ use Rattle.std.specs.declared.option.Option.the-variants.{Some}
 use Rattle.rules.specs.declared.step.Step.the-variants.{By32}
 use Rattle.rules.specs.declared.answers.Found.the-variants.{Held, Absent}
 use Rattle.rules.specs.declared.answers.Answer.{Answer}
-use Rattle.rules.specs.declared.answers.Answer.the-variants.{Entered, Changed, Struck, Looked, Spelled, Doubled, Refused}
+use Rattle.rules.specs.declared.answers.Answer.the-variants.{Entered, Struck, Looked}
 use Rattle.rules.specs.Tree.{Tree, treeOf}
 use Rattle.rules.specs.Book.{Row, nodes, rowBytes, labelBytes, Arrival, rowsOf}
 use Rattle.rules.specs.Calls.{Book, findIn}
-use Rattle.rules.specs.Runs.{Request, Enter, Change, Find, Strike, Spell, Double, Reply, replies, bookAfter}
+use Rattle.rules.specs.Runs.{Request, Enter, Find, Strike, Reply, replies, bookAfter}
 
 -- tags that arrive in this order, each with the value 1
 abbrev pub arriving : List (List ℕ) → List (Arrival ℕ)

@@ -3,13 +3,10 @@ use mathlib.Core.Path.{_≡_}
 use mathlib.Core.Bool.{Bool, true, false}
 use mathlib.Core.List.{List, [], _∷_}
 use Prim.Native.Nat.{ℕ}
-use lib.ListN.{take, drop}
-use denote.Ref.{now}
 use Rattle.std.specs.declared.result.Result.{Result}
 use Rattle.std.specs.declared.result.Result.the-variants.{Ok, Err}
 use Rattle.tags.specs.declared.refusal.Refusal.{Refusal}
 use Rattle.tags.specs.declared.refusal.Refusal.the-variants.{NoNodeRoom, NoByteRoom}
-use Rattle.rules.specs.declared.answers.Found.{Found}
 use Rattle.rules.specs.declared.answers.Answer.{Answer}
 use Rattle.rules.specs.declared.answers.Answer.the-variants.{Entered, Changed, Struck, Looked, Spelled, Doubled, Refused}
 use Rattle.rules.specs.Calls.{Book, Turn, enter, change, strike, find, spell, spellBuffer, double}

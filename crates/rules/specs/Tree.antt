@@ -1,7 +1,7 @@
 -- the tree of a list of tags: the incremental path decomposition of their trie
-use mathlib.Core.Bool.{Bool, true, false, _&&_}
+use mathlib.Core.Bool.{true, false, _&&_}
 use mathlib.Core.List.{List, [], _∷_, _++_}
-use Prim.Native.Nat.{ℕ, zero, suc, _+_, _-_, _*_, _/_, _%_}
+use Prim.Native.Nat.{ℕ, zero, suc, _+_, _-_, _/_, _%_}
 use lib.Dec.{eqb}
 use lib.ListN.{length, getD, take, drop}
 use Rattle.std.specs.declared.option.Option.{Option}
@@ -54,12 +54,12 @@ down step edges zero u = record { node = u; missing = 0 }
 down step edges (suc k) u = elim (child edges u (stepSymbol step)) [ None ↦ record { node = u; missing = suc k } | Some v ↦ down step edges k v ]
 
 -- how looking ends, with the moves made, each a passage to a child: at the tag's node; or at a node below which
--- so many steps and then the child by the symbol are missing, whose label would be the rest
+-- so many steps and then the child by the symbol are missing, whose label would be the rest (before the first tag, at node 0)
 pub data Look : Type 0 where
   there : (node moves : ℕ) → Look
   lacks : (node missing symbol : ℕ) (rest : List ℕ) (moves : ℕ) → Look
 
--- looking from node u for the word s, after m moves. Each turn drops a byte of s at least, so the fuel,
+-- looking from node u for the word s, which has a byte, after m moves. Each turn drops a byte of s at least, so the fuel,
 -- which is above the length of s, is never used up
 unfoldable pub lookFrom : Step → Tree → ℕ → ℕ → List ℕ → ℕ → Look
 lookFrom step t zero u s m = lacks u 0 0 s m
@@ -129,7 +129,7 @@ climbFrom step t (suc fuel) v i word =
       ]
     ]
 
--- the spelled form that a node stands for
+-- the spelled form that a ticket's node stands for
 abbrev pub climb : Step → Tree → ℕ → List ℕ
 climb step t v = climbFrom step t (suc v) v (length (labelOf t v)) []
 

@@ -1,19 +1,17 @@
 -- what a well-formed tag has
-use mathlib.Core.Path.{_≡_, refl, ap, sym, _∙_}
+use mathlib.Core.Path.{_≡_, refl}
 use mathlib.Core.Bool.{Bool, true, false, cond}
-use mathlib.Core.List.{List, [], _∷_, _++_}
-use mathlib.Core.Logic.{inl, inr}
+use mathlib.Core.List.{List, [], _∷_}
 use Prim.Native.Nat.{ℕ, _+_, _<_, _≤_}
 use native.Mathlib.Omega.{arith}
 use lib.Dec.{eqb, ltb}
-use lib.ListN.{length, getD, length-append}
+use lib.ListN.{length, length-append}
 use Rattle.std.specs.Options.{isSome}
 use Rattle.std.specs.declared.option.Option.{Option}
 use Rattle.std.specs.declared.option.Option.the-variants.{Some, None}
-use Rattle.std.proofs.shelf.Tests.{cases-bool, both-ways, eqb-false, ltb-false, or-parts, cond-true, cond-false}
-use Rattle.tags.specs.declared.refusal.Refusal.{Refusal}
+use Rattle.std.proofs.shelf.Tests.{both-ways, eqb-false, ltb-false}
 use Rattle.tags.specs.declared.refusal.Refusal.the-variants.{EmptyTag, LongTag, BadByte}
-use Rattle.tags.specs.Tags.{isBad, anyBad, tagRefusal, WellFormed, spelled}
+use Rattle.tags.specs.Tags.{anyBad, WellFormed, spelled}
 
 pub record Parts (tag : List ℕ) : Type 0 where
   pub some : 0 < length tag

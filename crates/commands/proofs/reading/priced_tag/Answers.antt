@@ -1,5 +1,4 @@
 use mathlib.Core.Path.{_∙_}
-use Rattle.commands.specs.Commands.{pricedTag}
 use Rattle.commands.proofs.Orders.{priced-is, no-amount, no-tag, both}
 use Rattle.commands.proofs.reading.priced_tag.Needs as need
 
