@@ -1,0 +1,4 @@
+pub mod map;
+pub mod shelf;
+pub mod sizes;
+pub mod store;

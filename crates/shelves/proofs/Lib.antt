@@ -1,0 +1,5 @@
+pub mod Bits
+pub mod Fills
+pub mod Pairs
+pub mod Places
+pub mod Records

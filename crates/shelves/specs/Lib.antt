@@ -1,0 +1,4 @@
+pub mod Lent
+pub mod Records
+pub mod Bits
+pub mod Tallies

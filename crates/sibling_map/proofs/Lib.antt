@@ -1,0 +1,5 @@
+mod Newest
+mod Read
+mod Start
+mod Linked
+mod Facts

@@ -1,0 +1,5 @@
+pub mod map;
+pub mod record;
+pub mod shape;
+#[cfg(test)]
+mod tests;
