@@ -2,4 +2,3 @@ pub mod command;
 pub mod lines;
 mod numbers;
 pub mod reading;
-pub mod vetting;

@@ -8,7 +8,7 @@ use Rattle.rules.specs.declared.step.Step.{Step}
 use Rattle.rules.specs.Steps.{stepSymbol}
 use Rattle.rules.specs.Tree.{Edge, Tree, nodeCount, there, lacks, lookFor, withNode, grow, enterTag, bytesIn}
 
-bytes-push : (labels : List (List ℕ)) (label : List ℕ) → bytesIn (labels ++ (label ∷ [])) ≡ bytesIn labels + length label
+pub bytes-push : (labels : List (List ℕ)) (label : List ℕ) → bytesIn (labels ++ (label ∷ [])) ≡ bytesIn labels + length label
 unfolding bytesIn
 bytes-push [] label = omega arith
 bytes-push (l ∷ ls) label = omega (arith, bytes-push ls label)

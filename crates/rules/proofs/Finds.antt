@@ -41,14 +41,14 @@ module _ {V : Type 0} where
   unfolding rowsOf
   rows-last step arrivals a = arrive-last step arrivals a []
 
-  next-arrival : (step : Step) (rows : List (Row V)) (a : Arrival V)
+  pub next-arrival : (step : Step) (rows : List (Row V)) (a : Arrival V)
       → _≡_ {A = Arrival V} (record { tag = nextRow step rows (a .tag) (a .value) .tag; value = nextRow step rows (a .tag) (a .value) .value }) a
   unfolding nextRow laterRow
   next-arrival step [] a = refl
   next-arrival step (r ∷ rs) a = refl
 
   -- a row more, of an arrival whose tag is in no row
-  push-sound : (book : Book V) (a : Arrival V) → Sound book → WellFormed (a .tag) → rowOf (book .rows) (a .tag) ≡ None
+  pub push-sound : (book : Book V) (a : Arrival V) → Sound book → WellFormed (a .tag) → rowOf (book .rows) (a .tag) ≡ None
       → labelBytes (book .rows) + rowBytes (nextRow (book .step) (book .rows) (a .tag) (a .value)) ≤ book .byteRoom
       → Sound (withRows book (book .rows ++ (nextRow (book .step) (book .rows) (a .tag) (a .value) ∷ [])))
   push-sound book a s w new fits =
@@ -62,7 +62,7 @@ module _ {V : Type 0} where
         bytes = rw (labelBytes-push (book .rows) r) fits;
       }
 
-  takes-sound : (book : Book V) (j : ℕ) (value : Option V) → Sound book → Sound (takes book j value .next)
+  pub takes-sound : (book : Book V) (j : ℕ) (value : Option V) → Sound book → Sound (takes book j value .next)
   unfolding takes
   takes-sound book j value s =
       let r : Row V = withValue (rowAt (book .rows) j) value in
@@ -109,7 +109,7 @@ module _ {V : Type 0} where
       (λ e. choice-sound (rowOf (book .rows) tag) _ _ (λ f. s) (λ j. choice-sound (rowAt (book .rows) j .value) _ _ (λ g. s) (λ held. takes-sound book j value s)))
       (λ why. s)
 
-  double-sound : (book : Book V) → Sound book → Sound (double book .next)
+  pub double-sound : (book : Book V) → Sound book → Sound (double book .next)
   unfolding double
   double-sound book s = go (book .coming) refl
     where
@@ -133,7 +133,7 @@ module _ {V : Type 0} where
   unfolding rowsOf arriveAll labelBytes
   fresh-sound book e = record { rows = rw e refl; tags = rw e tt; bytes = rw e (omega arith) }
 
-  tags-arrived : (rows : List (Row V)) → arrivedTags (arrivalsOf rows) ≡ tagsOf rows
+  pub tags-arrived : (rows : List (Row V)) → arrivedTags (arrivalsOf rows) ≡ tagsOf rows
   tags-arrived [] = refl
   tags-arrived (r ∷ rows) = ap (λ (tags : List (List ℕ)). r .tag ∷ tags) (tags-arrived rows)
 
@@ -144,7 +144,7 @@ module _ {V : Type 0} where
 
 module _ {V : Type 0} (law : DescentMatchesBook V) where
   module _ (book : Book V) (s : Sound book) (tag : List ℕ) (w : WellFormed tag) where
-    agree : Agree (book .step) (treeOf (book .step) (tagsOf (book .rows))) (book .rows) tag
+    pub agree : Agree (book .step) (treeOf (book .step) (tagsOf (book .rows))) (book .rows) tag
     agree = rw (tags-arrived (book .rows), ← s .rows) at (law (book .step) (arrivalsOf (book .rows)) (rw (tags-arrived (book .rows)) (s .tags)) tag w)
 
     absent-true : rowOf (book .rows) tag ≡ None → TrueFind book tag (Absent (absentMoves (book .step) (book .rows) tag))

@@ -57,10 +57,10 @@ once-more places z once new v w hv hw e = elim (split places z v hv) [
 ]
 
 -- the edges of one node more
-edge-old : (edges : List Edge) (e : Edge) (v : ℕ) → 0 < v → v < nodeCount edges → edgeOf (edges ++ (e ∷ [])) v ≡ edgeOf edges v
+pub edge-old : (edges : List Edge) (e : Edge) (v : ℕ) → 0 < v → v < nodeCount edges → edgeOf (edges ++ (e ∷ [])) v ≡ edgeOf edges v
 edge-old edges e v z h = getD-append-left edges (e ∷ []) (record { parent = 0; symbol = 0 }) (v - 1) (omega arith)
 
-edge-new : (edges : List Edge) (e : Edge) (v : ℕ) → nodeCount edges ≡ v → edgeOf (edges ++ (e ∷ [])) v ≡ e
+pub edge-new : (edges : List Edge) (e : Edge) (v : ℕ) → nodeCount edges ≡ v → edgeOf (edges ++ (e ∷ [])) v ≡ e
 edge-new edges e v h = getD-push edges e (record { parent = 0; symbol = 0 }) (v - 1) (omega arith)
 
 module _ {V : Type 0} where

@@ -1,7 +1,7 @@
 -- the tree and the rows of the same arrivals, side by side
 use mathlib.Core.Path.{_≡_, refl, sym, ap, subst, _∙_}
 use mathlib.Core.Logic.{inl, inr}
-use mathlib.Core.List.{List, [], _∷_}
+use mathlib.Core.List.{List, [], _∷_, _++_}
 use Prim.Native.Nat.{ℕ, _+_, _-_, _≤_, _<_}
 use native.Mathlib.Omega.{arith}
 use lib.ListN.{length, length-append, length-drop}
@@ -24,6 +24,17 @@ module _ {V : Type 0} where
   unfolding labelBytes
   labelBytes-push [] y = omega arith
   labelBytes-push (r ∷ rs) y = omega (arith, labelBytes-push rs y)
+
+module _ (step : Step) where
+  -- the tree with a tag entered last
+  enter-last : (tags : List (List ℕ)) (tag : List ℕ) (t : Tree) → enterTags step t (tags ++ (tag ∷ [])) ≡ enterTag step (enterTags step t tags) tag
+  unfolding enterTags
+  enter-last [] tag t = refl
+  enter-last (x ∷ tags) tag t = enter-last tags tag (enterTag step t x)
+
+  pub tree-last : (tags : List (List ℕ)) (tag : List ℕ) → treeOf step (tags ++ (tag ∷ [])) ≡ enterTag step (treeOf step tags) tag
+  unfolding treeOf
+  tree-last tags tag = enter-last tags tag bare
 
 module _ {V : Type 0} (step : Step) where
   -- the tree is that of the rows

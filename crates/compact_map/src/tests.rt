@@ -1,0 +1,584 @@
+ghost use mathlib.Core.Path.{_≡_};
+ghost use lib.ListN.{length};
+ghost use Rattle.rules.specs.declared.step.Step.the-variants.{By32};
+ghost use Rattle.parts.specs.Sizes.{powerFor, mapFor};
+ghost use Rattle.compact_map.specs.Memory.{memoryOf};
+ghost use Rattle.compact_map.specs.Meaning.{capacity};
+use crate::map::CompactNodeMap;
+use crate::map::check_bytes;
+use crate::shape::CompactMap;
+use parts::map::NodeMap;
+use std::test::*;
+use tags::refusal::MapFault;
+use tags::refusal::MapFaultDebug;
+use tags::refusal::MapFaultPartialEq;
+use tags::refusal::Refusal;
+use tags::refusal::RefusalDebug;
+use tags::refusal::RefusalPartialEq;
+
+// What the 448 bytes of the map below hold, as a Python program that knows only the written rules computed them.
+const HELD: [u8; 448] = [
+    0xc2,
+    0xfc,
+    0x00,
+    0x08,
+    0x00,
+    0x20,
+    0xac,
+    0x58,
+    0x00,
+    0x10,
+    0x00,
+    0x30,
+    0x8d,
+    0xb8,
+    0x00,
+    0x18,
+    0x00,
+    0x40,
+    0xef,
+    0x18,
+    0x00,
+    0x20,
+    0x00,
+    0x50,
+    0xd8,
+    0xb4,
+    0x00,
+    0x28,
+    0x00,
+    0x60,
+    0xba,
+    0x14,
+    0x00,
+    0x30,
+    0x00,
+    0x70,
+    0xde,
+    0x74,
+    0x00,
+    0x40,
+    0x00,
+    0xa0,
+    0xbf,
+    0xd8,
+    0x00,
+    0x38,
+    0x00,
+    0xb0,
+    0xa9,
+    0x20,
+    0x00,
+    0x50,
+    0x00,
+    0xc0,
+    0x00,
+    0x00,
+    0x00,
+    0x00,
+    0x00,
+    0x00,
+    0x00,
+    0x00,
+    0x00,
+    0x00,
+    0x00,
+    0x00,
+    0x00,
+    0x00,
+    0x00,
+    0x00,
+    0x00,
+    0x00,
+    0xfc,
+    0xd4,
+    0x00,
+    0x00,
+    0x00,
+    0x90,
+    0x8a,
+    0xa0,
+    0x00,
+    0x08,
+    0x00,
+    0xd0,
+    0x9b,
+    0x74,
+    0x00,
+    0x00,
+    0x00,
+    0x80,
+    0xe1,
+    0x5c,
+    0x00,
+    0x00,
+    0x00,
+    0x10,
+    0xa5,
+    0xa5,
+    0xa5,
+    0xa5,
+    0xa5,
+    0xa5,
+    0xa5,
+    0xa5,
+    0xa5,
+    0xa5,
+    0xa5,
+    0xa5,
+    0xa5,
+    0xa5,
+    0xa5,
+    0xa5,
+    0xa5,
+    0xa5,
+    0xa5,
+    0xa5,
+    0xa5,
+    0xa5,
+    0xa5,
+    0xa5,
+    0xa5,
+    0xa5,
+    0xa5,
+    0xa5,
+    0xa5,
+    0xa5,
+    0xa5,
+    0xa5,
+    0xa5,
+    0xa5,
+    0xa5,
+    0xa5,
+    0xa5,
+    0xa5,
+    0xa5,
+    0xa5,
+    0xa5,
+    0xa5,
+    0xa5,
+    0xa5,
+    0xa5,
+    0xa5,
+    0xa5,
+    0xa5,
+    0xa5,
+    0xa5,
+    0xa5,
+    0xa5,
+    0xa5,
+    0xa5,
+    0xa5,
+    0xa5,
+    0xa5,
+    0xa5,
+    0xa5,
+    0xa5,
+    0xa5,
+    0xa5,
+    0xa5,
+    0xa5,
+    0xa5,
+    0xa5,
+    0xa5,
+    0xa5,
+    0xa5,
+    0xa5,
+    0xa5,
+    0xa5,
+    0xa5,
+    0xa5,
+    0xa5,
+    0xa5,
+    0xa5,
+    0xa5,
+    0xa5,
+    0xa5,
+    0xa5,
+    0xa5,
+    0xa5,
+    0xa5,
+    0xa5,
+    0xa5,
+    0xa5,
+    0xa5,
+    0xa5,
+    0xa5,
+    0xa5,
+    0xa5,
+    0xa5,
+    0xa5,
+    0xa5,
+    0xa5,
+    0x9f,
+    0xe4,
+    0x00,
+    0x00,
+    0x00,
+    0xb0,
+    0x88,
+    0x30,
+    0x00,
+    0x20,
+    0x01,
+    0x10,
+    0xad,
+    0xa8,
+    0x00,
+    0x30,
+    0x01,
+    0x30,
+    0xde,
+    0x4c,
+    0x00,
+    0x58,
+    0x01,
+    0x40,
+    0x83,
+    0xc4,
+    0x00,
+    0x58,
+    0x01,
+    0x60,
+    0xb4,
+    0x70,
+    0x00,
+    0x90,
+    0x01,
+    0x70,
+    0xea,
+    0xd8,
+    0x00,
+    0x00,
+    0x00,
+    0xf0,
+    0x9b,
+    0x7c,
+    0x00,
+    0x08,
+    0x01,
+    0x00,
+    0xd3,
+    0x04,
+    0x00,
+    0x08,
+    0x01,
+    0x50,
+    0x00,
+    0x00,
+    0x00,
+    0x00,
+    0x00,
+    0x00,
+    0x00,
+    0x00,
+    0x00,
+    0x00,
+    0x00,
+    0x00,
+    0x00,
+    0x00,
+    0x00,
+    0x00,
+    0x00,
+    0x00,
+    0x00,
+    0x00,
+    0x00,
+    0x00,
+    0x00,
+    0x00,
+    0x00,
+    0x00,
+    0x00,
+    0x00,
+    0x00,
+    0x00,
+    0x00,
+    0x00,
+    0x00,
+    0x00,
+    0x00,
+    0x00,
+    0x00,
+    0x00,
+    0x00,
+    0x00,
+    0x00,
+    0x00,
+    0x00,
+    0x00,
+    0x00,
+    0x00,
+    0x00,
+    0x00,
+    0xdd,
+    0x10,
+    0x00,
+    0x00,
+    0x00,
+    0x70,
+    0x00,
+    0x00,
+    0x00,
+    0x00,
+    0x00,
+    0x00,
+    0x8d,
+    0xbc,
+    0x00,
+    0x00,
+    0x00,
+    0x80,
+    0xc5,
+    0x40,
+    0x00,
+    0x08,
+    0x00,
+    0xd0,
+    0x94,
+    0x9c,
+    0x00,
+    0x00,
+    0x00,
+    0xc0,
+    0xac,
+    0x44,
+    0x00,
+    0x00,
+    0x00,
+    0x60,
+    0xfc,
+    0xf4,
+    0x00,
+    0x20,
+    0x01,
+    0x20,
+    0xe1,
+    0x74,
+    0x00,
+    0x00,
+    0x00,
+    0x20,
+    0x86,
+    0xdc,
+    0x00,
+    0x00,
+    0x00,
+    0x40,
+    0xbe,
+    0x78,
+    0x00,
+    0x08,
+    0x00,
+    0x90,
+    0xd6,
+    0x30,
+    0x00,
+    0x00,
+    0x00,
+    0x30,
+    0xb0,
+    0xb8,
+    0x00,
+    0x00,
+    0x00,
+    0x10,
+    0xef,
+    0x34,
+    0x00,
+    0x08,
+    0x00,
+    0xa0,
+    0xb7,
+    0x98,
+    0x00,
+    0x00,
+    0x00,
+    0x50,
+    0xf6,
+    0x14,
+    0x00,
+    0x28,
+    0x00,
+    0xe0,
+    0xa5,
+    0xa5,
+    0x00,
+    0x1c,
+    0x00,
+    0x18,
+    0x00,
+    0x1b,
+    0x00,
+    0x19,
+    0x00,
+    0x1e,
+    0x00,
+    0x16,
+    0x00,
+    0x11,
+    0x00,
+    0x13,
+    0x00,
+    0x1a,
+    0x00,
+    0x1d,
+    0x00,
+    0x00,
+    0x00,
+    0x15,
+    0x00,
+    0x14,
+    0x00,
+    0x1f,
+    0x00,
+    0x06,
+    0x00,
+    0x07,
+    0x00,
+    0x01,
+    0x00,
+    0x17,
+    0x00,
+    0x02,
+    0x00,
+    0x03,
+    0x00,
+    0x08,
+    0x00,
+    0x04,
+    0x00,
+    0x05,
+    0xa5,
+    0xa5,
+    0xa5,
+    0xa5,
+    0xa5,
+    0xa5,
+    0xa5,
+    0xa5,
+    0xa5,
+    0xa5,
+    0xa5,
+    0xa5,
+    0xa5,
+    0xa5,
+    0xa5,
+    0xa5,
+];
+
+// The edge of node v: parents come before their children, and no two nodes share both.
+fn edge(v: u32) -> (u32, u16) {
+    (v / 3, ((v % 4096) * 973 % 8192) as u16)
+}
+
+// Adds the nodes up to a count, and tells how many there are then.
+fn grow<M: NodeMap>(map: &mut M, count: u32) -> u32 {
+    for v in map.count()..count {
+        let (u, c) = edge(v);
+        let _ = map.add(u, c);
+    }
+    map.count()
+}
+
+// Whether child and up find every node.
+fn finds_all<M: NodeMap>(map: &M) -> bool {
+    for v in 1..map.count() {
+        let (u, c) = edge(v);
+        if map.child(u, c) != Ok(Some(v)) || map.up(v) != Ok((u, c)) {
+            return false;
+        }
+    }
+    true
+}
+
+// Fills every room of a map in turn.
+fn fill<M: NodeMap>(map: &mut M) -> u32 {
+    for _ in 0..12 {
+        let room = map.room();
+        grow(map, room);
+        let _ = map.double();
+    }
+    map.count()
+}
+
+// Fills a map in these bytes up to its last room, and reads every node back.
+fn fills_up(memory: &mut [u8], room: u32) -> Result<(), Fail> {
+    let mut map = CompactMap::new(memory);
+    check_eq(fill(&mut map), room)?;
+    check_eq(map.last_room(), room)?;
+    check(finds_all(&map))
+}
+
+#[test]
+fn every_node_is_found_again() -> Result<(), Fail> {
+    fills_up(&mut [0xa5; 224], 14)?;
+    fills_up(&mut [0xa5; 448], 28)?;
+    fills_up(&mut [0xa5; 896], 57)?;
+    fills_up(&mut [0xa5; 1792], 115)?;
+    fills_up(&mut [0xa5; 3584], 230)?;
+    fills_up(&mut [0xa5; 7168], 460)?;
+    fills_up(&mut [0xa5; 14336], 921)
+}
+
+#[test]
+fn every_byte_is_as_the_rules_say() -> Result<(), Fail> {
+    let mut memory = [0xa5; 448];
+    let mut map = CompactMap::new(&mut memory);
+    check_eq(grow(&mut map, 14), 14)?;
+    check_eq(map.add(0, 5000), Err(MapFault::RoomFull))?;
+    check_eq(map.double(), Ok(28))?;
+    check_eq(grow(&mut map, 24), 24)?;
+    check_eq(&memory[0..448], &HELD[0..448])
+}
+
+#[test]
+fn faults_come_in_order() -> Result<(), Fail> {
+    let mut memory = [0; 224];
+    let mut map = CompactMap::new(&mut memory);
+    check_eq(map.child(1, 9000), Err(MapFault::NoNode))?;
+    check_eq(map.child(0, 8192), Err(MapFault::SymbolTooLarge))?;
+    check_eq(map.child(0, 8191), Ok(None))?;
+    check_eq(map.add(1, 9000), Err(MapFault::NoNode))?;
+    check_eq(map.add(0, 8192), Err(MapFault::SymbolTooLarge))?;
+    check_eq(grow(&mut map, 14), 14)?;
+    let (u, c) = edge(13);
+    check_eq(map.add(u, c), Err(MapFault::PairTaken))?;
+    check_eq(map.add(0, 5000), Err(MapFault::RoomFull))?;
+    check_eq(map.up(0), Err(MapFault::NoNode))?;
+    check_eq(map.up(14), Err(MapFault::NoNode))?;
+    check_eq(map.double(), Err(MapFault::LastRoom))?;
+    check(finds_all(&map))
+}
+
+// When a map is gone, it is known what the bytes that it was lent hold.
+fn open_and_leave(bytes: &mut [u8]) -> u32
+    ensures { λ _. ⌜ now (bytes .exit) ≡ memoryOf By32 (mapFor capacity (powerFor (length (now (bytes .entry))) 14)) (now (bytes .entry)) ⌝ }
+{
+    let map = CompactMap::new(bytes);
+    map.room()
+}
+
+#[test]
+fn a_new_map_has_its_first_room() -> Result<(), Fail> {
+    check_eq(open_and_leave(&mut [7; 448]), 14)?;
+    check_eq(open_and_leave(&mut [7; 449]), 1)
+}
+
+#[test]
+fn refused_memory_stays_as_it_is() -> Result<(), Fail> {
+    check_eq(check_bytes(224), Ok(()))?;
+    check_eq(check_bytes(458752), Ok(()))?;
+    check_eq(check_bytes(458753), Err(Refusal::MapMemory))?;
+    check_eq(check_bytes(917504), Err(Refusal::MapMemory))?;
+    check_eq(check_bytes(225), Err(Refusal::MapMemory))?;
+    let mut memory = [7; 225];
+    let mut map = CompactMap::new(&mut memory);
+    check_eq(map.room(), 1)?;
+    check_eq(map.last_room(), 1)?;
+    check_eq(map.child(0, 3), Ok(None))?;
+    check_eq(map.add(0, 3), Err(MapFault::RoomFull))?;
+    check_eq(map.double(), Err(MapFault::LastRoom))?;
+    check_eq(memory, [7; 225])
+}

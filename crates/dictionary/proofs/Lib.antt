@@ -1,0 +1,15 @@
+pub mod Fresh
+pub mod Answered
+pub mod Standing
+pub mod Shelved
+pub mod Checked
+pub mod Shown
+pub mod Finding
+pub mod Taking
+pub mod Growing
+pub mod Laying
+pub mod Entry
+pub mod Ascent
+pub mod Spelt
+pub mod Running
+pub mod Alike

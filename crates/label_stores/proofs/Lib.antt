@@ -1,0 +1,4 @@
+pub mod Agreement
+pub mod Leads
+pub mod Reading
+pub mod Spans

@@ -1,0 +1,13 @@
+use mathlib.Core.Path.{_∙_}
+use Rattle.std.proofs.shelf.Results.{err-from-errBy}
+use Rattle.label_stores.specs.Meaning.{groupedMeaning}
+use Rattle.label_stores.proofs.Reading.{no-meet, meet-there}
+use Rattle.label_stores.proofs.grouped.GroupedLabels.meet.Needs as need
+
+pub returns-in-Break-label : need.returns-in-Break-label
+returns-in-Break-label c =
+    let p = err-from-errBy (c .from-residual .result) (c .from-residual .ensures .1) in
+    rw (p .1, p .2) (no-meet (groupedMeaning (c .args .self .now)) (c .args .v) (c .in-Break-label .field-0 .0) (c .args .s .now) (c .args .from) (c .in-Break-label .ensures tt))
+
+pub returns : need.returns
+returns c = c .meet-of .ensures ∙ meet-there (groupedMeaning (c .args .self .now)) (c .args .v) (c .in-Continue-label .label .now) (c .args .s .now) (c .args .from) (c .in-Continue-label .ensures tt)

@@ -1,0 +1,12 @@
+use Rattle.std.proofs.shelf.Results.{err-from-errBy}
+use Rattle.label_stores.specs.Meaning.{plainMeaning}
+use Rattle.label_stores.proofs.Reading.{no-length, length-there}
+use Rattle.label_stores.proofs.plain.PlainLabels.length.Needs as need
+
+pub returns-in-Break-label : need.returns-in-Break-label
+returns-in-Break-label c =
+    let p = err-from-errBy (c .from-residual .result) (c .from-residual .ensures .1) in
+    rw (p .1, p .2) (no-length (plainMeaning (c .args .self .now)) (c .args .v) (c .in-Break-label .field-0 .0) (c .in-Break-label .ensures tt))
+
+pub returns : need.returns
+returns c = length-there (plainMeaning (c .args .self .now)) (c .args .v) (c .in-Continue-label .label .now) (c .in-Continue-label .ensures tt)

@@ -1,0 +1,5 @@
+pub mod Answers
+pub mod Sizes
+pub mod Spans
+pub mod Leads
+pub mod Meaning
