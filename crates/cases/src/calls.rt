@@ -15,7 +15,7 @@ use tags::refusal::RefusalDebug;
 use tags::refusal::RefusalPartialEq;
 
 // The ticket or room that a call answers, or 1000 and the number of its refusal.
-pub fn number(answer: Result<u32, Refusal>) -> u32 {
+fn number(answer: Result<u32, Refusal>) -> u32 {
     match answer {
         Ok(n) => n,
         Err(why) => 1000 + why.number() as u32,
@@ -23,7 +23,7 @@ pub fn number(answer: Result<u32, Refusal>) -> u32 {
 }
 
 // The ticket that a find answers, 999 where the tag is absent, and its moves.
-pub fn looked<D: DictionaryCalls>(d: &D, tag: &[u8]) -> (u32, u32) {
+fn looked<D: DictionaryCalls>(d: &D, tag: &[u8]) -> (u32, u32) {
     match d.find(tag) {
         Ok(
             Found::Held {
@@ -38,7 +38,7 @@ pub fn looked<D: DictionaryCalls>(d: &D, tag: &[u8]) -> (u32, u32) {
 }
 
 // The length that a spell answers, or 1000 and the number of its refusal.
-pub fn spelled<D: DictionaryCalls>(d: &D, ticket: u32, buffer: &mut [u8]) -> usize {
+fn spelled<D: DictionaryCalls>(d: &D, ticket: u32, buffer: &mut [u8]) -> usize {
     match d.spell(ticket, buffer) {
         Ok(length) => length,
         Err(why) => 1000 + why.number() as usize,
@@ -142,7 +142,7 @@ fn unfit_on<D: DictionaryCalls>(d: &mut D, value: D::Value) -> Result<(), Fail> 
     check_eq(number(d.double()), 1013)
 }
 
-pub fn worked<M: NodeMap + Drop, L: LabelStore + Drop, S: Shelf + Drop>(
+pub(crate) fn worked<M: NodeMap + Drop, L: LabelStore + Drop, S: Shelf + Drop>(
     map: M,
     store: L,
     shelf: S,
@@ -154,7 +154,7 @@ pub fn worked<M: NodeMap + Drop, L: LabelStore + Drop, S: Shelf + Drop>(
     outcome
 }
 
-pub fn last_node<M: NodeMap + Drop, L: LabelStore + Drop, S: Shelf + Drop>(
+pub(crate) fn last_node<M: NodeMap + Drop, L: LabelStore + Drop, S: Shelf + Drop>(
     map: M,
     store: L,
     shelf: S,
@@ -166,7 +166,7 @@ pub fn last_node<M: NodeMap + Drop, L: LabelStore + Drop, S: Shelf + Drop>(
     outcome
 }
 
-pub fn last_byte<M: NodeMap + Drop, L: LabelStore + Drop, S: Shelf + Drop>(
+pub(crate) fn last_byte<M: NodeMap + Drop, L: LabelStore + Drop, S: Shelf + Drop>(
     map: M,
     store: L,
     shelf: S,
@@ -179,7 +179,7 @@ pub fn last_byte<M: NodeMap + Drop, L: LabelStore + Drop, S: Shelf + Drop>(
 }
 
 // The reading call tells 13 beforehand, and so does every call.
-pub fn unfit<M: NodeMap + Drop, L: LabelStore + Drop, S: Shelf + Drop>(
+pub(crate) fn unfit<M: NodeMap + Drop, L: LabelStore + Drop, S: Shelf + Drop>(
     map: M,
     store: L,
     shelf: S,
