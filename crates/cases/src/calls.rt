@@ -73,6 +73,8 @@ fn steps<D: DictionaryCalls>(d: &mut D, value: D::Value) -> Result<(), Fail> {
     check_eq(number(d.enter(&c, value)), 7)?;
     check_eq(number(d.enter(&a[0..39], value)), 8)?;
     check_eq(looked(d, &a[0..38]), (999, 2))?;
+    let mut short = [b'.'; 38];
+    check_eq(spelled(d, 8, &mut short), 1009)?;
     let mut buffer = [b'.'; 40];
     check_eq(spelled(d, 6, &mut buffer), 1008)?;
     check_eq(spelled(d, 8, &mut buffer), 39)?;
