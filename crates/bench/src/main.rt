@@ -1,3 +1,5 @@
+#![tactic(auto)]
+
 ghost use Rattle.std.specs.Prelude.{◌≡◌, ◌^◌, ◌<◌, length, IfOk};
 ghost use Rattle.session.specs.Output.{Printed};
 ghost use Rattle.bench.specs.Bench.{bench_text};

@@ -1,5 +1,7 @@
 // Cases that run on a dictionary over every combination of makes.
 
+#![tactic(auto)]
+
 #[cfg(test)]
 mod calls;
 #[cfg(test)]

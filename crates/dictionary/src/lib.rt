@@ -1,3 +1,5 @@
+#![tactic(auto)]
+
 pub mod calls;
 mod climbing;
 mod descent;

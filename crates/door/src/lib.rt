@@ -1,3 +1,5 @@
+#![tactic(auto)]
+
 ghost use Rattle.std.specs.Prelude.{length};
 ghost use Rattle.session.specs.Output.{Printed};
 ghost use Rattle.session.specs.Served.{printed_over};

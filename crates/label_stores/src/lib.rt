@@ -1,3 +1,5 @@
+#![tactic(auto)]
+
 mod fill;
 pub mod grouped;
 mod labels;

@@ -1,3 +1,5 @@
+#![tactic(auto)]
+
 pub mod map;
 pub mod shelf;
 pub mod sizes;

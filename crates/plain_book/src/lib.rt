@@ -1,6 +1,8 @@
 //! Another dictionary, written on its own to be compared with the proved one: a plain list of rows.
 //! It is here to be compared, not believed: its functions are proved safe and ending, and no more.
 
+#![tactic(auto)]
+
 use std::alloc::{AllocError, Global};
 
 /// The most bytes that a tag has.

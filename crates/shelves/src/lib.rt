@@ -1,3 +1,5 @@
+#![tactic(auto)]
+
 pub mod bit;
 pub mod counts;
 mod lent;

@@ -1,4 +1,7 @@
 // For the program in speed/, which measures the dictionary beside others: tags entered and found, over lent memory.
+
+#![tactic(auto)]
+
 use compact_map::shape::CompactMap;
 use dictionary::calls::DictionaryCalls;
 use dictionary::dictionary::Dictionary;

@@ -1,3 +1,5 @@
+#![tactic(auto)]
+
 pub mod refusal;
 pub mod tag;
 #[cfg(test)]

@@ -10,9 +10,9 @@ pub returns-then-text-gt10 : goal.returns-then-text-gt10
 unfolding number
 returns-then-text-gt10 c = search rules
 
-pub returns-then-not-all-digits : goal.returns-then-not-all-digits
+pub returns-then-not-all_digits : goal.returns-then-not-all_digits
 unfolding number
-returns-then-not-all-digits c = search rules
+returns-then-not-all_digits c = search rules
 
 pub returns-then-value-gt4294967295 : goal.returns-then-value-gt4294967295
 unfolding number

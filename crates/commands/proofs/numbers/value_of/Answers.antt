@@ -4,14 +4,14 @@ use Rattle.commands.specs.Numbers.{decimal_from}
 use Rattle.commands.proofs.Digits.{next_of, value_more, bound_more, bound_ten}
 use Rattle.commands.proofs.numbers.value_of.Goals as goal
 
-pub overflow-sub-digit : goal.overflow-sub-digit
-overflow-sub-digit c = (next_of _ _ c.loop-digit-test.true c.loop-digit.invariant.1).low
+pub overflow_sub-digit : goal.overflow_sub-digit
+overflow_sub-digit c = (next_of _ _ c.loop-digit-test.true c.loop-digit.invariant.1).low
 
-pub overflow-mul-value : goal.overflow-mul-value
-overflow-mul-value c = omega (arith, bound_ten c.loop-digit.digit-index c.loop-digit.value (omega arith) c.loop-digit.invariant.2)
+pub overflow_mul-value : goal.overflow_mul-value
+overflow_mul-value c = omega (arith, bound_ten c.loop-digit.digit-index c.loop-digit.value (omega arith) c.loop-digit.invariant.2)
 
-pub overflow-add-value : goal.overflow-add-value
-overflow-add-value c =
+pub overflow_add-value : goal.overflow_add-value
+overflow_add-value c =
     let n = next_of c.args.digits.now c.loop-digit.digit-index c.loop-digit-test.true c.loop-digit.invariant.1 in
     omega (arith, bound_ten c.loop-digit.digit-index c.loop-digit.value (omega arith) c.loop-digit.invariant.2, c.from.ensures)
 

@@ -2,8 +2,8 @@ use Rattle.std.proofs.Common.{rules}
 use Rattle.commands.proofs.Orders.{after_none, after_one, after_other}
 use Rattle.commands.proofs.reading.after_space.Goals as goal
 
-pub returns-in-default : goal.returns-in-default
-returns-in-default c = after_none c.args.text.now (search rules)
+pub returns-in_default : goal.returns-in_default
+returns-in_default c = after_none c.args.text.now (search rules)
 
 pub returns-then-first-eq32 : goal.returns-then-first-eq32
 returns-then-first-eq32 c = after_one c.args.text.now (search rules) c.if-first-eq32.true

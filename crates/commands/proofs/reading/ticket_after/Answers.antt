@@ -3,8 +3,8 @@ use Rattle.commands.specs.Numbers.{number}
 use Rattle.commands.proofs.Orders.{not_spaced, is_spaced}
 use Rattle.commands.proofs.reading.ticket_after.Goals as goal
 
-pub returns-in-err-text : goal.returns-in-err-text
-returns-in-err-text c = rw c.from-residual.ensures (not_spaced number c.args.matter.now c.in-err-text.ensures)
+pub returns-in_err-text : goal.returns-in_err-text
+returns-in_err-text c = rw c.from_residual.ensures (not_spaced number c.args.matter.now c.in_err-text.ensures)
 
 pub returns : goal.returns
-returns c = c.read-number.ensures ∙ is_spaced number _ c.args.matter.now c.in-ok-text.ensures
+returns c = c.read_number.ensures ∙ is_spaced number _ c.args.matter.now c.in_ok-text.ensures

@@ -5,11 +5,11 @@ use Rattle.compact_map.proofs.bytes.read_number.Goals as goal
 pub loop-j-init : goal.loop-j-init
 loop-j-init c = (number_none c.args.bytes.now c.args.at, omega arith)
 
-pub overflow-mul-number : goal.overflow-mul-number
-overflow-mul-number c = let p : 2 ^ (8 * c.loop-j.j) ≤ 2 ^ 40 = pow_mono (let e : 8 * c.loop-j.j ≤ 40 = omega arith in e) in omega arith
+pub overflow_mul-number : goal.overflow_mul-number
+overflow_mul-number c = let p : 2 ^ (8 * c.loop-j.j) ≤ 2 ^ 40 = pow_mono (let e : 8 * c.loop-j.j ≤ 40 = omega arith in e) in omega arith
 
-pub overflow-add-number-in-loop-j : goal.overflow-add-number-in-loop-j
-overflow-add-number-in-loop-j c = let p : 2 ^ (8 * c.loop-j.j) ≤ 2 ^ 40 = pow_mono (let e : 8 * c.loop-j.j ≤ 40 = omega arith in e) in omega arith
+pub overflow_add-number_in-loop-j : goal.overflow_add-number_in-loop-j
+overflow_add-number_in-loop-j c = let p : 2 ^ (8 * c.loop-j.j) ≤ 2 ^ 40 = pow_mono (let e : 8 * c.loop-j.j ≤ 40 = omega arith in e) in omega arith
 
 pub loop-j-preserved : goal.loop-j-preserved
 loop-j-preserved c = (

@@ -30,11 +30,11 @@ module _ (from : Set) (n : ℕ) (old mid : List ℕ) (wide : 2 * from.slots ≤ 
       cleared_filled from.log from.large (wider from wide) old n (within from) (omega arith) (omega arith) was mid cleared new
       (subst (λ (x : ℕ). Filled By32 (from.log + 1) from.large (key_in By32 mid from.log from.large) x mid new) e f)
 
-pub overflow-sub-to : goal.overflow-sub-to
-overflow-sub-to c = omega (arith, start_le c.args.from.log c.args.from.large)
+pub overflow_sub-to : goal.overflow_sub-to
+overflow_sub-to c = omega (arith, start_le c.args.from.log c.args.from.large)
 
-pub invariant-of-to : goal.invariant-of-to
-invariant-of-to c =
+pub invariant_of-to : goal.invariant_of-to
+invariant_of-to c =
     let s : Set = c.args.from in
     let w : 2 * 2 ^ s.log ≤ s.large = wider s c.requires.1.0 in
     let e : set_start (s.log + 1) s.large ≡ 6 * s.large - set_start s.log s.large = other_start s.log s.large w in
@@ -46,8 +46,8 @@ loop-done-init c =
     filled_again (s.log + 1) s.large (other_fits s.log s.large (wider s c.requires.1.0)) (key_in By32 c.clear.new.bytes s.log s.large) 0
     c.args.bytes.now c.clear.new.bytes (c.clear.ensures (key_in By32 c.clear.new.bytes s.log s.large))
 
-pub key-of-key-requires : goal.key-of-key-requires
-key-of-key-requires c =
+pub key_of-key-requires : goal.key_of-key-requires
+key_of-key-requires c =
     let t : Turn c.args.from.log c.args.from.large c.clear.new.bytes c.loop-done.bytes (c.loop-done.done + 1)
     = turned c.args.from c.args.n c.args.bytes.now c.clear.new.bytes c.requires.1.0 c.requires.1.1.0 c.requires.1.1.1.0 c.requires.1.1.1.1
     c.clear.ensures c.loop-done.bytes c.loop-done.done c.loop-done.invariant c.loop-done-test.true in
@@ -58,14 +58,14 @@ put-requires c =
     let t : Turn c.args.from.log c.args.from.large c.clear.new.bytes c.loop-done.bytes (c.loop-done.done + 1)
     = turned c.args.from c.args.n c.args.bytes.now c.clear.new.bytes c.requires.1.0 c.requires.1.1.0 c.requires.1.1.1.0 c.requires.1.1.1.1
     c.clear.ensures c.loop-done.bytes c.loop-done.done c.loop-done.invariant c.loop-done-test.true in
-    (omega arith, (omega arith, t.vacant c.key-of-key.result))
+    (omega arith, (omega arith, t.vacant c.key_of-key.result))
 
 pub loop-done-preserved : goal.loop-done-preserved
 loop-done-preserved c =
     let t : Turn c.args.from.log c.args.from.large c.clear.new.bytes c.loop-done.bytes (c.loop-done.done + 1)
     = turned c.args.from c.args.n c.args.bytes.now c.clear.new.bytes c.requires.1.0 c.requires.1.1.0 c.requires.1.1.1.0 c.requires.1.1.1.1
     c.clear.ensures c.loop-done.bytes c.loop-done.done c.loop-done.invariant c.loop-done-test.true in
-    t.next c.key-of-key.result c.put.new.bytes c.key-of-key.ensures c.put.ensures
+    t.next c.key_of-key.result c.put.new.bytes c.key_of-key.ensures c.put.ensures
 
 pub returns : goal.returns
 returns c = record {

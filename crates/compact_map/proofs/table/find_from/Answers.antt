@@ -9,7 +9,7 @@ use Rattle.compact_map.proofs.table.find_from.Goals as goal
 pub returns-then-w-lt-TAKEN : goal.returns-then-w-lt-TAKEN
 returns-then-w-lt-TAKEN c =
     none_left c.args.set.slots (slot_at c.args.bytes.now c.args.set.start) c.args.home c.args.quotient c.loop-d.d c.requires.1.1 c.loop-d.invariant
-    (λ t. let u : Taken c.word-on-w.result = subst Taken (sym c.word-on-w.ensures) t in omega arith)
+    (λ t. let u : Taken c.word_on-w.result = subst Taken (sym c.word_on-w.ensures) t in omega arith)
 
 pub returns-then-slot-d : goal.returns-then-slot-d
 returns-then-slot-d c = (
@@ -31,8 +31,8 @@ returns-then-slot-d c = (
     i : ℕ
     i = onward m c.args.home c.loop-d.d
 
-    w : c.word-on-w.result ≡ slot_at c.args.bytes.now c.args.set.start i
-    w = c.word-on-w.ensures
+    w : c.word_on-w.result ≡ slot_at c.args.bytes.now c.args.set.start i
+    w = c.word_on-w.ensures
 
     d : displacement_in (slot_at c.args.bytes.now c.args.set.start i) ≡ c.loop-d.d
     d = ap displacement_in (sym w) ∙ sym c.unpack-slot.ensures.displacement ∙ c.if-slot-d.true

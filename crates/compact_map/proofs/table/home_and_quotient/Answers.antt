@@ -4,7 +4,7 @@ use Rattle.compact_map.specs.Hash.{quotient_of}
 use Rattle.compact_map.proofs.HeldKeys.{quotient_lt}
 use Rattle.compact_map.proofs.table.home_and_quotient.Goals as goal
 
-pub overflow-cast-result-2 : goal.overflow-cast-result-2
-overflow-cast-result-2 c =
+pub overflow_cast-result-2 : goal.overflow_cast-result-2
+overflow_cast-result-2 c =
     let e : c.hash-h.result / 2 ^ c.args.set.log ≡ quotient_of By32 c.args.set.log c.args.key = ap (λ (x : ℕ). x / 2 ^ c.args.set.log) c.hash-h.ensures in
     omega (arith, quotient_lt c.args.set.log c.args.key)

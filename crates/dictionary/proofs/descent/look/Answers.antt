@@ -12,7 +12,7 @@ returns-then-i-rest g c = record {
   bounded = omega arith;
   looked = λ a.
       let o = c.loop-rest.invariant.3 a in
-      ends_there _ _ _ a _ _ _ o _ (c.meet-of-i.ensures (node_labelled _ _ _ a _ _ _ o)) (omega arith);
+      ends_there _ _ _ a _ _ _ o _ (c.meet_of-i.ensures (node_labelled _ _ _ a _ _ _ o)) (omega arith);
   opened = λ a. tt;
 }
 
@@ -22,11 +22,11 @@ returns-then-below-gt0 g c = record {
   bounded = (omega arith, search rules, omega arith, omega arith);
   looked = λ a.
       let o = c.loop-rest.invariant.3 a in
-      let d = c.steps-down-below.ensures.reached (node_in _ _ _ a _ _ _ o) in
-      ends_short _ _ _ a _ _ _ o _ (c.meet-of-i.ensures (node_labelled _ _ _ a _ _ _ o)) (omega arith) _ c.branch-symbol-symbol.ensures _ c.steps-to.ensures _ _ d _ (omega arith) _ (omega arith) c.if-below-gt0.true;
+      let d = c.steps_down-below.ensures.reached (node_in _ _ _ a _ _ _ o) in
+      ends_short _ _ _ a _ _ _ o _ (c.meet_of-i.ensures (node_labelled _ _ _ a _ _ _ o)) (omega arith) _ c.branch_symbol-symbol.ensures _ c.steps_to.ensures _ _ d _ (omega arith) _ (omega arith) c.if-below-gt0.true;
   opened = λ a.
       let o = c.loop-rest.invariant.3 a in
-      let d = c.steps-down-below.ensures.reached (node_in _ _ _ a _ _ _ o) in
+      let d = c.steps_down-below.ensures.reached (node_in _ _ _ a _ _ _ o) in
       record { inside = reached_in _ _ _ _ _ (node_in _ _ _ a _ _ _ o) d; step = λ h. reached_stop _ _ _ _ _ d h; last = λ z. absurd (omega arith) };
 }
 
@@ -37,9 +37,9 @@ loop-rest-preserved g c = (
   omega arith,
   λ a.
       let o = c.loop-rest.invariant.3 a in
-      let d = c.steps-down-below.ensures.reached (node_in _ _ _ a _ _ _ o) in
+      let d = c.steps_down-below.ensures.reached (node_in _ _ _ a _ _ _ o) in
       let i = reached_in _ _ _ _ _ (node_in _ _ _ a _ _ _ o) d in
-      goes_on _ _ _ a _ _ _ o _ (c.meet-of-i.ensures (node_labelled _ _ _ a _ _ _ o)) (omega arith) _ c.branch-symbol-symbol.ensures _ c.steps-to.ensures _ _ d _ (omega arith) _ (omega arith) (omega arith) _ (c.in-Some.ensures i (search rules)),
+      goes_on _ _ _ a _ _ _ o _ (c.meet_of-i.ensures (node_labelled _ _ _ a _ _ _ o)) (omega arith) _ c.branch_symbol-symbol.ensures _ c.steps_to.ensures _ _ d _ (omega arith) _ (omega arith) (omega arith) _ (c.in-Some.ensures i (search rules)),
 )
 
 pub returns-in-None : goal.returns-in-None
@@ -48,12 +48,12 @@ returns-in-None g c = record {
   bounded = (omega arith, search rules, omega arith, omega arith);
   looked = λ a.
       let o = c.loop-rest.invariant.3 a in
-      let d = c.steps-down-below.ensures.reached (node_in _ _ _ a _ _ _ o) in
+      let d = c.steps_down-below.ensures.reached (node_in _ _ _ a _ _ _ o) in
       let i = reached_in _ _ _ _ _ (node_in _ _ _ a _ _ _ o) d in
-      ends_none _ _ _ a _ _ _ o _ (c.meet-of-i.ensures (node_labelled _ _ _ a _ _ _ o)) (omega arith) _ c.branch-symbol-symbol.ensures _ c.steps-to.ensures _ _ d _ (omega arith) _ (omega arith) (omega arith) (c.in-None.ensures i (search rules));
+      ends_none _ _ _ a _ _ _ o _ (c.meet_of-i.ensures (node_labelled _ _ _ a _ _ _ o)) (omega arith) _ c.branch_symbol-symbol.ensures _ c.steps_to.ensures _ _ d _ (omega arith) _ (omega arith) (omega arith) (c.in-None.ensures i (search rules));
   opened = λ a.
       let o = c.loop-rest.invariant.3 a in
-      let d = c.steps-down-below.ensures.reached (node_in _ _ _ a _ _ _ o) in
+      let d = c.steps_down-below.ensures.reached (node_in _ _ _ a _ _ _ o) in
       let i = reached_in _ _ _ _ _ (node_in _ _ _ a _ _ _ o) d in
       record { inside = i; step = λ h. absurd (omega arith); last = λ z. sym (c.in-None.ensures i (search rules)) };
 }

@@ -9,14 +9,14 @@ pub loop-missing-preserved : goal.loop-missing-preserved
 loop-missing-preserved g c = (
   omega arith,
   λ h. let s = c.loop-missing.invariant.1 h in
-      stepped_more _ _ _ _ _ _ _ c.loop-missing-test.true s c.step-symbol.ensures (c.in-Some.ensures s.inside (omega arith)),
+      stepped_more _ _ _ _ _ _ _ c.loop-missing-test.true s c.step_symbol.ensures (c.in-Some.ensures s.inside (omega arith)),
 )
 
 pub returns-in-None : goal.returns-in-None
 returns-in-None g c = record {
   moves = c.loop-missing.invariant.0;
   reached = λ h. let s = c.loop-missing.invariant.1 h in
-      stepped_end _ _ _ _ _ _ c.loop-missing-test.true s c.step-symbol.ensures (c.in-None.ensures s.inside (omega arith));
+      stepped_end _ _ _ _ _ _ c.loop-missing-test.true s c.step_symbol.ensures (c.in-None.ensures s.inside (omega arith));
 }
 
 pub returns : goal.returns

@@ -9,15 +9,15 @@ pub loop-missing-preserved : goal.loop-missing-preserved
 loop-missing-preserved g c = (
   λ can.
       let s = c.loop-missing.invariant.0 can in
-      let e = c.step-symbol.ensures in
-      growing_more _ _ _ _ _ _ _ _ _ _ _ s _ _ _ c.loop-missing-test.true _ e (c.make-node-node.ensures.made (can_step _ _ _ _ _ _ _ s.can c.loop-missing-test.true _ e)),
-  c.make-node-node.ensures.stays ∙ c.loop-missing.invariant.1,
+      let e = c.step_symbol.ensures in
+      growing_more _ _ _ _ _ _ _ _ _ _ _ s _ _ _ c.loop-missing-test.true _ e (c.make_node-node.ensures.made (can_step _ _ _ _ _ _ _ s.can c.loop-missing-test.true _ e)),
+  c.make_node-node.ensures.stays ∙ c.loop-missing.invariant.1,
 )
 
 pub returns : goal.returns
 returns g c = record {
   grown = λ can.
       let s = c.loop-missing.invariant.0 can in
-      growing_end _ _ _ _ _ _ _ _ _ _ _ s _ _ _ (omega arith) (c.make-node.ensures.made (can_last _ _ _ _ _ _ _ s.can (omega arith)));
-  stays = c.make-node.ensures.stays ∙ c.loop-missing.invariant.1;
+      growing_end _ _ _ _ _ _ _ _ _ _ _ s _ _ _ (omega arith) (c.make_node.ensures.made (can_last _ _ _ _ _ _ _ s.can (omega arith)));
+  stays = c.make_node.ensures.stays ∙ c.loop-missing.invariant.1;
 }

@@ -12,12 +12,12 @@ loop-i-preserved g c =
           let s = c.loop-i.invariant.1 b sh in
           so_far_more _ _ _ _ _ _ _ _ _ _ _ _ (next_made _ _ _ _ inside placed c.index-calls-i.is) (omega arith) c.loop-i.invariant.0 (search rules) (omega arith) s
           (c.perform-answer.ensures.answer s.book s.shows) (c.perform-answer.ensures.next s.book s.shows) (c.perform-answer.ensures.written s.book s.shows)
-          (search rules) c.set-answer.ensures,
+          (search rules) c.set_answer.ensures,
       c.perform-answer.ensures.stays ∙ c.loop-i.invariant.2,
       λ u.
           let k = c.loop-i.invariant.3 u in
           let p = c.perform-answer.ensures.unfit (subst g.D.DictionaryCalls.unfit (sym k.0) u) in
-          (p.1 ∙ k.0, refused_more _ _ _ _ _ _ placed k.1 p.0 c.set-answer.ensures, put_back _ _ _ _ p.2 ∙ k.2),
+          (p.1 ∙ k.0, refused_more _ _ _ _ _ _ placed k.1 p.0 c.set_answer.ensures, put_back _ _ _ _ p.2 ∙ k.2),
     )
 
 pub returns : goal.returns

@@ -6,5 +6,5 @@ use Rattle.label_stores.proofs.labels.meet_of.Goals as goal
 
 pub returns : goal.returns
 returns c =
-    ap (λ (n : ℕ). Ok n) (c.shared-front.ensures ∙ ap (λ (x : List ℕ). shared x c.args.label.now) (take_rest c.args.s.now c.args.from))
+    ap (λ (n : ℕ). Ok n) (c.shared_front.ensures ∙ ap (λ (x : List ℕ). shared x c.args.label.now) (take_rest c.args.s.now c.args.from))
     ∙ sym (cond-false (ltb (length c.args.s.now) c.args.from) _ _ (le-ltb (length c.args.s.now) c.args.from (omega arith)))

@@ -5,7 +5,7 @@ use Rattle.session.proofs.lists.put_lines.Goals as goal
 pub loop-line-preserved : goal.loop-line-preserved
 loop-line-preserved g c =
     let opens = c.in-Some.ensures.line in
-    let p = c.put-line-at.ensures in (
+    let p = c.put_line-at.ensures in (
       λ b sh. let s = c.loop-line.invariant.0 b sh in so_far_more opens s (p.wrote s.book s.shows) (p.next s.book s.shows),
       p.stays ∙ c.loop-line.invariant.1,
       λ u.

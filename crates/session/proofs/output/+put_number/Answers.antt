@@ -6,4 +6,4 @@ pub returns-then-n-lt10 : goal.returns-then-n-lt10
 returns-then-n-lt10 t c = one_digit c.if-n-lt10.true (omega arith) c.put.ensures
 
 pub returns : goal.returns
-returns t c = more_digits (omega arith) (omega arith) (omega arith) c.put-number-at.ensures c.put-2.ensures
+returns t c = more_digits (omega arith) (omega arith) (omega arith) c.put_number-at.ensures c.put-2.ensures

@@ -6,6 +6,6 @@ use Rattle.session.proofs.output.put.Goals.{then-at-out, else-at-out}
 pub returns : goal.returns
 returns c = record {
   short = omega arith;
-  bytes = elim c.if-at-out.branch [ then-at-out w ↦ w.out-is ∙ put_within _ _ _ _ _ _ w.if-at-out.true w.min-n.ensures (omega arith) w.copy-from-slice.ensures.after | else-at-out w ↦ w.out-is ∙ put_beyond _ _ _ w.if-at-out.false ];
-  count = c.saturating-add.ensures;
+  bytes = elim c.if-at-out.branch [ then-at-out w ↦ w.out-is ∙ put_within _ _ _ _ _ _ w.if-at-out.true w.min-n.ensures (omega arith) w.copy_from_slice.ensures.after | else-at-out w ↦ w.out-is ∙ put_beyond _ _ _ w.if-at-out.false ];
+  count = c.saturating_add.ensures;
 }

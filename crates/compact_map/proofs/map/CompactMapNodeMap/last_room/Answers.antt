@@ -7,4 +7,4 @@ use Rattle.compact_map.proofs.map.CompactMapNodeMap.last_room.Goals as goal
 pub returns : goal.returns
 returns c =
     let s : CompactMap = c.args.self.now in
-    c.room-of.ensures ∙ ap capacity s.wide ∙ sym (rooms_last capacity s.set.log s.top s.rooms)
+    c.room_of.ensures ∙ ap capacity s.wide ∙ sym (rooms_last capacity s.set.log s.top s.rooms)

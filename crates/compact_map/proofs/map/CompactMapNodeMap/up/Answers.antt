@@ -17,8 +17,8 @@ returns-then-v-eq0 c =
       | then-v-eq0-via-else-v-eq0+then-v-self w ↦ sym (up_far (meaning_of s) c.args.v w.if-v-eq0.false (omega (arith, count_is s, w.if-v-self.true)))
     ]
 
-pub key-of-key-requires : goal.key-of-key-requires
-key-of-key-requires c =
+pub key_of-key-requires : goal.key_of-key-requires
+key_of-key-requires c =
     let s : CompactMap = c.args.self.now in
     let used : 2 < s.set.large = omega arith in
     let i : place_at (bytes_of s) (12 * s.set.large) c.args.v < 2 ^ s.set.log = (table_of s used).inside c.args.v (omega arith) (omega arith) in (
@@ -29,5 +29,5 @@ key-of-key-requires c =
 pub returns : goal.returns
 returns c =
     let s : CompactMap = c.args.self.now in
-    subst (λ (x : ℕ). Ok (x / 8192, x % 8192) ≡ up_answer (meaning_of s) c.args.v) (sym c.key-of-key.ensures)
+    subst (λ (x : ℕ). Ok (x / 8192, x % 8192) ≡ up_answer (meaning_of s) c.args.v) (sym c.key_of-key.ensures)
     (sym (up_is (meaning_of s) c.args.v _ c.if-v-eq0.false (omega (arith, count_is s)) (edge_at (keys_of s) s.later c.args.v (omega arith) (omega arith))))

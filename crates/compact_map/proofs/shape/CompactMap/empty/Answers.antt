@@ -7,15 +7,15 @@ use Rattle.compact_map.proofs.Filled.{filled_again}
 use Rattle.compact_map.proofs.Memories.{memory_is}
 use Rattle.compact_map.proofs.shape.CompactMap.empty.Goals as goal
 
-pub invariant-of-set : goal.invariant-of-set
-invariant-of-set c =
+pub invariant_of-set : goal.invariant_of-set
+invariant_of-set c =
     let z : PowerOf (length c.args.bytes.now) 14 (Some c.args.top) = c.requires.1 in
     let low : 2 ^ 4 ≤ 2 ^ c.args.top = pow_mono z.1 in
     let high : 2 ^ c.args.top ≤ 2 ^ 15 = pow_mono z.2 in
     (refl, (omega arith, (omega (arith, z.0), (omega (arith, z.0), (omega arith, (omega (arith, z.0), tt))))))
 
-pub invariant-of-result : goal.invariant-of-result
-invariant-of-result c =
+pub invariant_of-result : goal.invariant_of-result
+invariant_of-result c =
     let z : PowerOf (length c.args.bytes.now) 14 (Some c.args.top) = c.requires.1 in
     let low : 2 ^ 4 ≤ 2 ^ c.args.top = pow_mono z.1 in
     let is : length c.args.bytes.now ≡ 14 * 2 ^ c.args.top = z.0 in

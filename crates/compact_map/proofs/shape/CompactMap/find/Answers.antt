@@ -10,11 +10,11 @@ returns-then-self-eq0 c =
     let s : CompactMap = c.args.self.now in
     sym (child_absent (keys_of s) s.later c.args.u c.args.c c.requires.1 (λ v a b e. omega arith))
 
-pub overflow-mul-u : goal.overflow-mul-u
-overflow-mul-u c = omega (arith, count_is c.args.self.now)
+pub overflow_mul-u : goal.overflow_mul-u
+overflow_mul-u c = omega (arith, count_is c.args.self.now)
 
-pub overflow-add-u : goal.overflow-add-u
-overflow-add-u c = omega (arith, count_is c.args.self.now)
+pub overflow_add-u : goal.overflow_add-u
+overflow_add-u c = omega (arith, count_is c.args.self.now)
 
 pub find-requires : goal.find-requires
 find-requires c =

@@ -10,11 +10,11 @@ use Rattle.compact_map.proofs.Memories.{map_of}
 use Rattle.compact_map.proofs.Meant.{count_is, vacant_of, grown_stored, grown_map, grown_memory}
 use Rattle.compact_map.proofs.shape.CompactMap.insert.Goals as goal
 
-pub overflow-mul-u : goal.overflow-mul-u
-overflow-mul-u c = omega (arith, count_is c.args.self.now)
+pub overflow_mul-u : goal.overflow_mul-u
+overflow_mul-u c = omega (arith, count_is c.args.self.now)
 
-pub overflow-add-u : goal.overflow-add-u
-overflow-add-u c = omega (arith, count_is c.args.self.now)
+pub overflow_add-u : goal.overflow_add-u
+overflow_add-u c = omega (arith, count_is c.args.self.now)
 
 -- what is asked of the map, of the one that was taken out
 record Asked (s : CompactMap) (u c : ℕ) : Type 0 where
@@ -36,8 +36,8 @@ put-requires c =
     = asked s c.args.self.now c.args.u c.args.c c.take-bytes.ensures c.requires.0 c.requires.1.0 c.requires.1.1.0 c.requires.1.1.1 in
     (omega (arith, s.whole a.used), (omega (arith, a.room), vacant_of s a.used _))
 
-pub invariant-of-self : goal.invariant-of-self
-invariant-of-self c =
+pub invariant_of-self : goal.invariant_of-self
+invariant_of-self c =
     let s : CompactMap = c.take-bytes.result in
     let a : Asked s c.args.u c.args.c
     = asked s c.args.self.now c.args.u c.args.c c.take-bytes.ensures c.requires.0 c.requires.1.0 c.requires.1.1.0 c.requires.1.1.1 in

@@ -56,8 +56,8 @@ module _ (s : CompactMap) (set : Set) (new : List ℕ) (m : s.set.log < s.top) (
   memory_now : new ≡ memory_of By32 (map_of (key_in By32 new set.log set.large) s.later set.log s.top) (bytes_of s)
   memory_now = doubled_memory s m new long filled ∙ ap (λ (x : Map). memory_of By32 x (bytes_of s)) (sym map_now)
 
-pub invariant-of-self : goal.invariant-of-self
-invariant-of-self c =
+pub invariant_of-self : goal.invariant_of-self
+invariant_of-self c =
     let s : CompactMap = c.take-bytes.result in
     let t : Set = c.double-set.result in
     let m : s.set.log < s.top = more s c.args.self.now c.take-bytes.ensures c.requires in
@@ -77,7 +77,7 @@ returns c =
     let el : t.log ≡ s.set.log + 1 = c.double-set.ensures.log in
     let eg : t.large ≡ s.set.large = c.double-set.ensures.large in
     record {
-      answer = ap Ok (c.room-of.ensures ∙ ap capacity (t.wide ∙ ap (λ (x : ℕ). 2 ^ x) el))
+      answer = ap Ok (c.room_of.ensures ∙ ap capacity (t.wide ∙ ap (λ (x : ℕ). 2 ^ x) el))
           ∙ sym (next_is s t c.double-set.new.bytes m el eg c.double-set.auto.bytes c.double-set.ensures.filled).0
           ∙ ap (λ (x : CompactMap). double_answer (meaning_of x)) c.take-bytes.ensures;
       next = meaning_now s t c.double-set.new.bytes m el eg c.double-set.auto.bytes c.double-set.ensures.filled

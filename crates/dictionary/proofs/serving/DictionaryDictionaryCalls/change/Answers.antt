@@ -5,7 +5,7 @@ use Rattle.dictionary.proofs.Taking.{set_extent, did_live, did_dead}
 use Rattle.dictionary.proofs.serving.DictionaryDictionaryCalls.change.Goals as goal
 
 pub returns : goal.returns
-returns g c = let live = c.in-ok-ticket.ensures in record {
+returns g c = let live = c.in_ok-ticket.ensures in record {
   answer = λ b sh. (did_live _ _ _ b sh.1 c.args.tag.now (Some c.args.value) live.facts _ (live.answer sh.0 b sh.1) _ c.put.ensures.next).says;
   next = λ b sh. (sh.0, (did_live _ _ _ b sh.1 c.args.tag.now (Some c.args.value) live.facts _ (live.answer sh.0 b sh.1) _ c.put.ensures.next).shows);
   stays = set_extent _ _ _ _ _ _ refl c.put.ensures.next;
@@ -13,10 +13,10 @@ returns g c = let live = c.in-ok-ticket.ensures in record {
   kept = search rules;
 }
 
-pub returns-in-err-ticket : goal.returns-in-err-ticket
-returns-in-err-ticket g c =
-    let live = c.in-err-ticket.ensures in
-    let p = err_from_is_err_and c.from-residual.result c.from-residual.ensures.1 in
+pub returns-in_err-ticket : goal.returns-in_err-ticket
+returns-in_err-ticket g c =
+    let live = c.in_err-ticket.ensures in
+    let p = err_from_is_err_and c.from_residual.result c.from_residual.ensures.1 in
     rw (p.1, p.2) (record {
       answer = λ b sh. (did_dead _ _ _ b sh.1 c.args.tag.now (Some c.args.value) _ (live.answer sh.0 b sh.1)).says;
       next = λ b sh. (sh.0, (did_dead _ _ _ b sh.1 c.args.tag.now (Some c.args.value) _ (live.answer sh.0 b sh.1)).shows);

@@ -17,17 +17,17 @@ count_is p = grouped_count p.bytes.now p.fill.count
 answer_is : (p : GroupedStore) (s : List ℕ) (f : ℕ) → append_check p.fill.count p.fill.places p.fill.total p.fill.room (length s) f ≡ append_answer (grouped_meaning p) s f
 answer_is p s f = append_checked (grouped_meaning p) s f p.fill.count p.fill.total (count_is p) (sym p.sum)
 
-pub returns-in-err-check-append : goal.returns-in-err-check-append
-returns-in-err-check-append c =
+pub returns-in_err-check_append : goal.returns-in_err-check_append
+returns-in_err-check_append c =
     let p : GroupedStore = c.args.self.now in
-    let e = err_from_is_err_and c.from-residual.result c.from-residual.ensures.1 in
-    let answer : Err c.in-err-check-append.field-0.0 ≡ append_answer (grouped_meaning p) c.args.s.now c.args.from = c.in-err-check-append.ensures ∙ answer_is p c.args.s.now c.args.from in
+    let e = err_from_is_err_and c.from_residual.result c.from_residual.ensures.1 in
+    let answer : Err c.in_err-check_append.field-0.0 ≡ append_answer (grouped_meaning p) c.args.s.now c.args.from = c.in_err-check_append.ensures ∙ answer_is p c.args.s.now c.args.from in
     rw (e.1, e.2) (record {
       answer = answer;
-      next = next_none (grouped_meaning p) c.args.s.now c.args.from c.in-err-check-append.field-0.0 answer;
+      next = next_none (grouped_meaning p) c.args.s.now c.args.from c.in_err-check_append.field-0.0 answer;
       kept = λ _. refl;
-      bytes = memory_none (grouped_meaning p) c.args.s.now c.args.from c.in-err-check-append.field-0.0 _ p.bytes.now answer;
-      starts = memory_none (grouped_meaning p) c.args.s.now c.args.from c.in-err-check-append.field-0.0 _ p.starts.now answer;
+      bytes = memory_none (grouped_meaning p) c.args.s.now c.args.from c.in_err-check_append.field-0.0 _ p.bytes.now answer;
+      starts = memory_none (grouped_meaning p) c.args.s.now c.args.from c.in_err-check_append.field-0.0 _ p.starts.now answer;
       lenders = (refl, refl);
     })
 
@@ -60,7 +60,7 @@ returns c =
     let s : List ℕ = c.args.s.now in
     let f : ℕ = c.args.from in
     let rest : take (length s - f) (drop f s) ≡ drop f s = take_rest s f in
-    let done : Ok tt ≡ append_answer (grouped_meaning p) s f = c.in-ok-check-append.ensures ∙ answer_is p s f in
+    let done : Ok tt ≡ append_answer (grouped_meaning p) s f = c.in_ok-check_append.ensures ∙ answer_is p s f in
     let filled : FilledBy (drop f s) p.fill q.fill = subst (λ (x : List ℕ). FilledBy x p.fill q.fill) rest c.add.ensures.fill in
     let bytes : q.bytes.now ≡ led p.bytes.now (p.fill.total + p.fill.count) (drop f s) = subst (λ (x : List ℕ). q.bytes.now ≡ led p.bytes.now (p.fill.total + p.fill.count) x) rest c.add.ensures.bytes in
     record {

@@ -20,17 +20,17 @@ walk-head-requires c =
     let z = within c.args.self.now c.args.v (head_at c.args.self.now.bytes.now c.args.v) (omega arith) refl in
     (c.args.self.now.groups (c.args.v / 16) (omega arith), (omega arith, omega arith))
 
-pub overflow-add-start : goal.overflow-add-start
-overflow-add-start c = let z = within c.args.self.now c.args.v c.walk-head.result (omega arith) c.walk-head.ensures in omega arith
+pub overflow_add-start : goal.overflow_add-start
+overflow_add-start c = let z = within c.args.self.now c.args.v c.walk-head.result (omega arith) c.walk-head.ensures in omega arith
 
 pub bounds-self-head : goal.bounds-self-head
 bounds-self-head c = let z = within c.args.self.now c.args.v c.walk-head.result (omega arith) c.walk-head.ensures in omega arith
 
-pub overflow-add-end : goal.overflow-add-end
-overflow-add-end c = let z = within c.args.self.now c.args.v c.walk-head.result (omega arith) c.walk-head.ensures in omega arith
+pub overflow_add-end : goal.overflow_add-end
+overflow_add-end c = let z = within c.args.self.now c.args.v c.walk-head.result (omega arith) c.walk-head.ensures in omega arith
 
-pub slice-bounds-result-end : goal.slice-bounds-result-end
-slice-bounds-result-end c = let z = within c.args.self.now c.args.v c.walk-head.result (omega arith) c.walk-head.ensures in omega arith
+pub slice_bounds-result-end : goal.slice_bounds-result-end
+slice_bounds-result-end c = let z = within c.args.self.now c.args.v c.walk-head.result (omega arith) c.walk-head.ensures in omega arith
 
 pub returns : goal.returns
 returns c =

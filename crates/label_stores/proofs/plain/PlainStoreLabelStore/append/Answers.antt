@@ -18,17 +18,17 @@ count_is p = plain_count p.bytes.now p.starts.now p.fill.count p.fill.total
 answer_is : (p : PlainStore) (s : List ℕ) (f : ℕ) → append_check p.fill.count p.fill.places p.fill.total p.fill.room (length s) f ≡ append_answer (plain_meaning p) s f
 answer_is p s f = append_checked (plain_meaning p) s f p.fill.count p.fill.total (count_is p) (sym p.sum)
 
-pub returns-in-err-check-append : goal.returns-in-err-check-append
-returns-in-err-check-append c =
+pub returns-in_err-check_append : goal.returns-in_err-check_append
+returns-in_err-check_append c =
     let p : PlainStore = c.args.self.now in
-    let e = err_from_is_err_and c.from-residual.result c.from-residual.ensures.1 in
-    let answer : Err c.in-err-check-append.field-0.0 ≡ append_answer (plain_meaning p) c.args.s.now c.args.from = c.in-err-check-append.ensures ∙ answer_is p c.args.s.now c.args.from in
+    let e = err_from_is_err_and c.from_residual.result c.from_residual.ensures.1 in
+    let answer : Err c.in_err-check_append.field-0.0 ≡ append_answer (plain_meaning p) c.args.s.now c.args.from = c.in_err-check_append.ensures ∙ answer_is p c.args.s.now c.args.from in
     rw (e.1, e.2) (record {
       answer = answer;
-      next = next_none (plain_meaning p) c.args.s.now c.args.from c.in-err-check-append.field-0.0 answer;
+      next = next_none (plain_meaning p) c.args.s.now c.args.from c.in_err-check_append.field-0.0 answer;
       kept = λ _. refl;
-      bytes = memory_none (plain_meaning p) c.args.s.now c.args.from c.in-err-check-append.field-0.0 _ p.bytes.now answer;
-      starts = memory_none (plain_meaning p) c.args.s.now c.args.from c.in-err-check-append.field-0.0 _ p.starts.now answer;
+      bytes = memory_none (plain_meaning p) c.args.s.now c.args.from c.in_err-check_append.field-0.0 _ p.bytes.now answer;
+      starts = memory_none (plain_meaning p) c.args.s.now c.args.from c.in_err-check_append.field-0.0 _ p.starts.now answer;
       lenders = (refl, refl);
     })
 
@@ -60,8 +60,8 @@ returns c =
     let s : List ℕ = c.args.s.now in
     let f : ℕ = c.args.from in
     let rest : take (length s - f) (drop f s) ≡ drop f s = take_rest s f in
-    let done : Ok tt ≡ append_answer (plain_meaning p) s f = c.in-ok-check-append.ensures ∙ answer_is p s f in
-    let room : FitsLabel p.fill (drop f s) = room_from p.fill s f c.in-ok-check-append.ensures in
+    let done : Ok tt ≡ append_answer (plain_meaning p) s f = c.in_ok-check_append.ensures ∙ answer_is p s f in
+    let room : FitsLabel p.fill (drop f s) = room_from p.fill s f c.in_ok-check_append.ensures in
     let filled : FilledBy (drop f s) p.fill q.fill = subst (λ (x : List ℕ). FilledBy x p.fill q.fill) rest c.add.ensures.fill in
     let bytes : q.bytes.now ≡ written p.bytes.now p.fill.total (drop f s) = subst (λ (x : List ℕ). q.bytes.now ≡ written p.bytes.now p.fill.total x) rest c.add.ensures.bytes in
     record {

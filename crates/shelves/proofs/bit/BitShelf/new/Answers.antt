@@ -5,5 +5,5 @@ use Rattle.shelves.proofs.bit.BitShelf.new.Goals as goal
 
 pub returns : goal.returns
 returns c =
-    let e : c.if-is-ok.bytes ≡ bit_new c.args.bytes.now = search rules in
+    let e : c.if-is_ok.bytes ≡ bit_new c.args.bytes.now = search rules in
     record { blank = ap bit_places e ∙ bit_places_new c.args.bytes.now; lent = e; lender = search rules }

@@ -20,11 +20,11 @@ use Rattle.sibling_map.proofs.map.SiblingMapNodeMap.add.Goals as goal
 memory_kept : (s : SiblingMap) (u c : ℕ) (fault : MapFault) → add_answer By32 (meaning_of s) u c ≡ Err fault → s.records.now ≡ add_records s u c
 memory_kept s u c fault a = sym (ap (λ (x : Result ℕ MapFault). records_for x (add_next By32 (meaning_of s) u c).edges s.records.now) a)
 
-pub returns-in-err-check-pair : goal.returns-in-err-check-pair
-returns-in-err-check-pair c =
+pub returns-in_err-check_pair : goal.returns-in_err-check_pair
+returns-in_err-check_pair c =
     let s : SiblingMap = c.args.self.now in
-    let p = err_from_is_err_and c.from-residual.result c.from-residual.ensures.1 in
-    let a = add_out By32 (meaning_of s) c.args.u c.args.c _ (pair_out s c.args.u c.args.c _ c.in-err-check-pair.ensures) in
+    let p = err_from_is_err_and c.from_residual.result c.from_residual.ensures.1 in
+    let a = add_out By32 (meaning_of s) c.args.u c.args.c _ (pair_out s c.args.u c.args.c _ c.in_err-check_pair.ensures) in
     rw (p.1, p.2)
     (record {
       answer = sym a;
@@ -37,7 +37,7 @@ returns-in-err-check-pair c =
 pub returns-in-Some : goal.returns-in-Some
 returns-in-Some c =
     let s : SiblingMap = c.args.self.now in
-    let h = pair_in_lem s c.args.u c.args.c c.in-ok-check-pair.ensures in
+    let h = pair_in_lem s c.args.u c.args.c c.in_ok-check_pair.ensures in
     let a = add_taken By32 (meaning_of s) c.args.u c.args.c _ h.0 h.1 (sym c.find.ensures ∙ c.in-Some.is) in
     record {
       answer = sym a;
@@ -47,12 +47,12 @@ returns-in-Some c =
       lender = refl;
     }
 
-pub returns-then-v-room-at : goal.returns-then-v-room-at
-returns-then-v-room-at c =
+pub returns-then-v-room_at : goal.returns-then-v-room_at
+returns-then-v-room_at c =
     let s : SiblingMap = c.args.self.now in
-    let h = pair_in_lem s c.args.u c.args.c c.in-ok-check-pair.ensures in
+    let h = pair_in_lem s c.args.u c.args.c c.in_ok-check_pair.ensures in
     let full : 2 ^ s.log ≤ count_of (meaning_of s) = omega (arith, count_is s.records.now s.later) in
-    let a = add_full By32 (meaning_of s) c.args.u c.args.c h.0 h.1 (sym c.find.ensures ∙ c.in-default.is) full in
+    let a = add_full By32 (meaning_of s) c.args.u c.args.c h.0 h.1 (sym c.find.ensures ∙ c.in_default.is) full in
     record {
       answer = sym a;
       next = sym (next_kept By32 (meaning_of s) c.args.u c.args.c _ a);
@@ -104,24 +104,24 @@ held_linked s u c y =
     (λ v used h. at_linked s.records.now s.later u c y.low y.room s.top s.laid used (parents_of s u c y) v h)
 
 pub bounds-self-u : goal.bounds-self-u
-bounds-self-u c = let y = way c.args.self.now c.args.u c.args.c c.room-at.result _ c.in-ok-check-pair.ensures c.find.ensures c.in-default.is c.room-at.ensures (omega arith) in
+bounds-self-u c = let y = way c.args.self.now c.args.u c.args.c c.room_at.result _ c.in_ok-check_pair.ensures c.find.ensures c.in_default.is c.room_at.ensures (omega arith) in
     omega (arith, y.low, y.room)
 
 pub bounds-self-v : goal.bounds-self-v
-bounds-self-v c = let y = way c.args.self.now c.args.u c.args.c c.room-at.result _ c.in-ok-check-pair.ensures c.find.ensures c.in-default.is c.room-at.ensures (omega arith) in y.room
+bounds-self-v c = let y = way c.args.self.now c.args.u c.args.c c.room_at.result _ c.in_ok-check_pair.ensures c.find.ensures c.in_default.is c.room_at.ensures (omega arith) in y.room
 
-pub invariant-of-self : goal.invariant-of-self
-invariant-of-self c =
+pub invariant_of-self : goal.invariant_of-self
+invariant_of-self c =
     let s : SiblingMap = c.args.self.now in
     (s.fits, (s.rooms, (s.most, ((λ used. simp length-set (s.whole used)), ((held_beyond s _).parents, ((held_beyond s _).symbols, ((held_beyond s _).distinct, ((held_beyond s _).laid, tt))))))))
 
 pub bounds-self-u-2 : goal.bounds-self-u-2
-bounds-self-u-2 c = let y = way c.args.self.now c.args.u c.args.c c.room-at.result _ c.in-ok-check-pair.ensures c.find.ensures c.in-default.is c.room-at.ensures (omega arith) in simp length-set (omega (arith, y.low, y.room))
+bounds-self-u-2 c = let y = way c.args.self.now c.args.u c.args.c c.room_at.result _ c.in_ok-check_pair.ensures c.find.ensures c.in_default.is c.room_at.ensures (omega arith) in simp length-set (omega (arith, y.low, y.room))
 
-pub invariant-of-self-2 : goal.invariant-of-self-2
-invariant-of-self-2 c =
+pub invariant_of-self-2 : goal.invariant_of-self-2
+invariant_of-self-2 c =
     let s : SiblingMap = c.args.self.now in
-    let k = held_linked s c.args.u c.args.c (way c.args.self.now c.args.u c.args.c c.room-at.result _ c.in-ok-check-pair.ensures c.find.ensures c.in-default.is c.room-at.ensures (omega arith)) in
+    let k = held_linked s c.args.u c.args.c (way c.args.self.now c.args.u c.args.c c.room_at.result _ c.in_ok-check_pair.ensures c.find.ensures c.in_default.is c.room_at.ensures (omega arith)) in
     (omega arith, (s.rooms, (s.most, ((λ used. simp length-set (s.whole used)), (k.parents, (k.symbols, (k.distinct, (k.laid, tt))))))))
 
 pub returns : goal.returns
@@ -129,7 +129,7 @@ returns c =
     let s : SiblingMap = c.args.self.now in
     let u : ℕ = c.args.u in
     let b : ℕ = c.args.c in
-    let y : Way s u b = way c.args.self.now c.args.u c.args.c c.room-at.result _ c.in-ok-check-pair.ensures c.find.ensures c.in-default.is c.room-at.ensures (omega arith) in
+    let y : Way s u b = way c.args.self.now c.args.u c.args.c c.room_at.result _ c.in_ok-check_pair.ensures c.find.ensures c.in_default.is c.room_at.ensures (omega arith) in
     let n : add_next By32 (meaning_of s) u b ≡ with_edge (meaning_of s) u b = next_made By32 (meaning_of s) u b _ y.answer in
     record {
       answer = sym y.answer;

@@ -7,14 +7,14 @@ use Rattle.sibling_map.specs.Meaning.{meaning_of}
 use Rattle.sibling_map.proofs.Facts.{pair_out, pair_in_lem}
 use Rattle.sibling_map.proofs.map.SiblingMapNodeMap.child.Goals as goal
 
-pub returns-in-err-check-pair : goal.returns-in-err-check-pair
-returns-in-err-check-pair c =
+pub returns-in_err-check_pair : goal.returns-in_err-check_pair
+returns-in_err-check_pair c =
     let s : SiblingMap = c.args.self.now in
-    let p = err_from_is_err_and c.from-residual.result c.from-residual.ensures.1 in
-    rw (p.1, p.2) (sym (child_out By32 (meaning_of s) c.args.u c.args.c _ (pair_out s c.args.u c.args.c _ c.in-err-check-pair.ensures)))
+    let p = err_from_is_err_and c.from_residual.result c.from_residual.ensures.1 in
+    rw (p.1, p.2) (sym (child_out By32 (meaning_of s) c.args.u c.args.c _ (pair_out s c.args.u c.args.c _ c.in_err-check_pair.ensures)))
 
 pub returns : goal.returns
 returns c =
     let s : SiblingMap = c.args.self.now in
-    let h = pair_in_lem s c.args.u c.args.c c.in-ok-check-pair.ensures in
+    let h = pair_in_lem s c.args.u c.args.c c.in_ok-check_pair.ensures in
     sym (child_in By32 (meaning_of s) c.args.u c.args.c _ h.0 h.1 c.find.ensures)

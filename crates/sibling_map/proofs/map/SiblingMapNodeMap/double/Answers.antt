@@ -13,8 +13,8 @@ returns-then-self c =
     let d = double_last (meaning_of s) (rooms_end capacity s.log s.top (omega arith)) in
     record { answer = sym d.0; next = sym d.1; kept = λ e. refl; memory = refl; lender = refl }
 
-pub invariant-of-self : goal.invariant-of-self
-invariant-of-self c =
+pub invariant_of-self : goal.invariant_of-self
+invariant_of-self c =
     let s : SiblingMap = c.args.self.now in
     let differs : s.log ≡ s.top → ⊥ = c.if-self.false in
     let less : s.log < s.log + 1 = omega arith in
@@ -27,4 +27,4 @@ returns c =
     let differs : s.log ≡ s.top → ⊥ = c.if-self.false in
     let less : s.log < s.top = omega (arith, s.rooms) in
     let d = double_more (meaning_of s) _ _ (rooms_next capacity s.log (s.log + 1) s.top (omega arith) less) in
-    record { answer = ap Ok c.room-at.ensures ∙ sym d.0; next = sym d.1; kept = λ e. absurd (true≢false e); memory = refl; lender = refl }
+    record { answer = ap Ok c.room_at.ensures ∙ sym d.0; next = sym d.1; kept = λ e. absurd (true≢false e); memory = refl; lender = refl }

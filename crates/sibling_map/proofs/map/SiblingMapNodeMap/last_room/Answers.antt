@@ -7,4 +7,4 @@ use Rattle.sibling_map.proofs.map.SiblingMapNodeMap.last_room.Goals as goal
 pub returns : goal.returns
 returns c =
     let s : SiblingMap = c.args.self.now in
-    c.room-at.ensures ∙ sym (rooms_last capacity s.log s.top s.rooms)
+    c.room_at.ensures ∙ sym (rooms_last capacity s.log s.top s.rooms)

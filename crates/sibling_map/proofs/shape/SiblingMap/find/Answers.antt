@@ -92,6 +92,6 @@ pub returns : goal.returns
 returns c =
     let s : SiblingMap = c.args.self.now in
     let w : Walk (edges_in s.records.now s.later) c.args.u c.args.c None
-    = subst (Walk (edges_in s.records.now s.later) c.args.u c.args.c) c.in-default.is c.loop-at.invariant in
+    = subst (Walk (edges_in s.records.now s.later) c.args.u c.args.c) c.in_default.is c.loop-at.invariant in
     sym (child_none (edges_in s.records.now s.later) c.args.u c.args.c
     (λ v a b e f. w.passed v a (omega arith) e f))

@@ -8,14 +8,14 @@ use Rattle.sibling_map.proofs.shape.SiblingMap.new.Goals as goal
 enough : (n top : ℕ) → n ≡ 1 * 2 ^ top → 4 ≤ top → 0 < n
 enough n top e h = let p : 2 ^ 4 ≤ 2 ^ top = pow_mono h in omega arith
 
-pub returns-in-default : goal.returns-in-default
+pub returns-in_default : goal.returns-in_default
 unfolding rooms_after
-returns-in-default c =
-    let e : None ≡ power_for (length c.args.records.now) 1 = c.in-default.ensures.power in
+returns-in_default c =
+    let e : None ≡ power_for (length c.args.records.now) 1 = c.in_default.ensures.power in
     record { meaning = ap (map_for capacity) e; memory = ap (λ (o : Option ℕ). start_records o c.args.records.now) e; lender = refl }
 
-pub invariant-of-result-2 : goal.invariant-of-result-2
-invariant-of-result-2 c =
+pub invariant_of-result-2 : goal.invariant_of-result-2
+invariant_of-result-2 c =
     let is : length c.args.records.now ≡ 1 * 2 ^ c.in-Some.top = c.in-Some.ensures.relation.0 in
     let low : 4 ≤ c.in-Some.top = c.in-Some.ensures.relation.1 in
     let some : 0 < length c.args.records.now = enough _ _ is low in (
