@@ -12,7 +12,7 @@ use Rattle.rules.proofs.Bytes.{byte_below}
 use Rattle.rules.proofs.Shared.{shared_sym, shared_length, shared_take}
 use Rattle.rules.proofs.Rows.{owner_row, BookOk}
 use Rattle.rules.proofs.Places.{Place, place, place_at, byte, NodeIs, top, of_row, of_step, TreeOk}
-use Rattle.rules.proofs.Descent.{row_label, meets}
+use Rattle.rules.proofs.Descent.{row_label}
 
 rejoin : (w v : List ℕ) (d i : ℕ) (spelt : List ℕ) → d ≤ shared w v → d < length w → take d v ++ (get_or w d 0 ∷ (take i (drop (suc d) w) ++ spelt)) ≡ take (suc d + i) w ++ spelt
 rejoin w v d i spelt h l =

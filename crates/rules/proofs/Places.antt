@@ -3,7 +3,6 @@ use Rattle.std.proofs.Common.{◌≡◌, ℕ, zero, suc, ◌+◌, ◌-◌, ◌/�
 use Rattle.std.proofs.lemmas.Bool.{cases_lt, cases_Bool, eq-eqb, eqb-true, and_parts, and_from, both_ways}
 use Rattle.rules.specs.declared.step.Step.{Step}
 use Rattle.rules.specs.Steps.{size, step_symbol, branch_symbol}
-use Rattle.rules.specs.Words.{same_word}
 use Rattle.rules.specs.Tree.{Edge, Tree, node_count, edge_of, label_of, child_from, child, down}
 use Rattle.rules.specs.Book.{Row, row_at, word, owns, steps_of, nodes}
 use Rattle.rules.proofs.Steps.{branch_below, branch_same}

@@ -1,5 +1,5 @@
 -- whole runs of the book
-use Rattle.std.specs.Prelude.{◌≡◌, ℕ, Bool, true, false, List, [], ◌∷◌, Ok, Err, Result, ◌≢◌}
+use Rattle.std.specs.Prelude.{ℕ, Bool, true, false, List, [], ◌∷◌, Ok, Err, Result, ◌≢◌}
 use Rattle.tags.specs.declared.refusal.Refusal.{Refusal}
 use Rattle.tags.specs.declared.refusal.Refusal.TheVariants.{NoNodeRoom, NoByteRoom}
 use Rattle.rules.specs.declared.answers.Answer.{Answer}
