@@ -113,7 +113,16 @@ bounds-self-v c = let y = way c.args.self.now c.args.u c.args.c c.room_at.result
 pub invariant_of-self : goal.invariant_of-self
 invariant_of-self c =
     let s : SiblingMap = c.args.self.now in
-    (s.fits, (s.rooms, (s.most, ((λ used. simp length-set (s.whole used)), ((held_beyond s _).parents, ((held_beyond s _).symbols, ((held_beyond s _).distinct, ((held_beyond s _).laid, tt))))))))
+    record {
+      fits = s.fits;
+      rooms = s.rooms;
+      most = s.most;
+      whole = λ used. simp length-set (s.whole used);
+      parents = (held_beyond s _).parents;
+      symbols = (held_beyond s _).symbols;
+      distinct = (held_beyond s _).distinct;
+      laid = (held_beyond s _).laid;
+    }
 
 pub bounds-self-u-2 : goal.bounds-self-u-2
 bounds-self-u-2 c = let y = way c.args.self.now c.args.u c.args.c c.room_at.result _ c.in_ok-check_pair.ensures c.find.ensures c.in_default.is c.room_at.ensures (omega arith) in simp length-set (omega (arith, y.low, y.room))
@@ -122,7 +131,16 @@ pub invariant_of-self-2 : goal.invariant_of-self-2
 invariant_of-self-2 c =
     let s : SiblingMap = c.args.self.now in
     let k = held_linked s c.args.u c.args.c (way c.args.self.now c.args.u c.args.c c.room_at.result _ c.in_ok-check_pair.ensures c.find.ensures c.in_default.is c.room_at.ensures (omega arith)) in
-    (omega arith, (s.rooms, (s.most, ((λ used. simp length-set (s.whole used)), (k.parents, (k.symbols, (k.distinct, (k.laid, tt))))))))
+    record {
+      fits = omega arith;
+      rooms = s.rooms;
+      most = s.most;
+      whole = λ used. simp length-set (s.whole used);
+      parents = k.parents;
+      symbols = k.symbols;
+      distinct = k.distinct;
+      laid = k.laid;
+    }
 
 pub returns : goal.returns
 returns c =

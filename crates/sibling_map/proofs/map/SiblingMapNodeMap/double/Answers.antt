@@ -19,7 +19,16 @@ invariant_of-self c =
     let differs : s.log ≡ s.top → ⊥ = c.if-self.false in
     let less : s.log < s.log + 1 = omega arith in
     let grows : 2 ^ s.log < 2 ^ (s.log + 1) = pow-lt less in
-    (omega (arith, s.fits), (omega (arith, s.rooms), (s.most, (s.whole, (s.parents, (s.symbols, (s.distinct, (s.laid, tt))))))))
+    record {
+      fits = omega (arith, s.fits);
+      rooms = omega (arith, s.rooms);
+      most = s.most;
+      whole = s.whole;
+      parents = s.parents;
+      symbols = s.symbols;
+      distinct = s.distinct;
+      laid = s.laid;
+    }
 
 pub returns : goal.returns
 returns c =

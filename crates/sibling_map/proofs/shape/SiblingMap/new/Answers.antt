@@ -18,22 +18,16 @@ pub invariant_of-result-2 : goal.invariant_of-result-2
 invariant_of-result-2 c =
     let is : length c.args.records.now ≡ 1 * 2 ^ c.in-Some.top = c.in-Some.ensures.relation.0 in
     let low : 4 ≤ c.in-Some.top = c.in-Some.ensures.relation.1 in
-    let some : 0 < length c.args.records.now = enough _ _ is low in (
-      omega arith,
-      (
-        low,
-        (
-          c.in-Some.ensures.relation.2,
-          (
-            (λ used. simp length-set (omega arith)),
-            (
-              (λ v h. h.0),
-              ((λ v h. omega arith), ((λ v w h. omega (arith, h.0, h.1, h.2, h.3)), (start_laid c.args.records.now some c.in-Some.top, tt))),
-            ),
-          ),
-        ),
-      ),
-    )
+    let some : 0 < length c.args.records.now = enough _ _ is low in record {
+      fits = omega arith;
+      rooms = low;
+      most = c.in-Some.ensures.relation.2;
+      whole = λ used. simp length-set (omega arith);
+      parents = λ v h. h.0;
+      symbols = λ v h. omega arith;
+      distinct = λ v w h. omega (arith, h.0, h.1, h.2, h.3);
+      laid = start_laid c.args.records.now some c.in-Some.top;
+    }
 
 pub returns : goal.returns
 returns c =
