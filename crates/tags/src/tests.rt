@@ -39,13 +39,16 @@ fn every_other_byte_passes(rt: HostRuntime) {
 
 #[test]
 fn a_tag_is_a_window(rt: HostRuntime) {
-    assert_eq!(rt; Tag::new(b"technics").bytes(), b"technics");
-    assert_eq!(rt; Tag::new(b"").bytes(), b"?");
+    assert_eq!(rt; Tag::new(b"technics").bytes(), b"technics".as_slice());
+    assert_eq!(rt; Tag::new(b"").bytes(), b"?".as_slice());
 }
 
 #[test]
 fn spelled_forms(rt: HostRuntime) {
-    assert_eq!(rt; Tag::new(b"ab").spelled().bytes(), &[b'a', b'b', 0]);
+    assert_eq!(rt;
+        Tag::new(b"ab").spelled().bytes(),
+        [b'a', b'b', 0].as_slice()
+    );
     let longest = Tag::new(&WIDE[0..200]).spelled();
     assert_eq!(rt; longest.bytes().len(), 201);
     assert_eq!(rt; longest.bytes().last().copied(), Some(0));
