@@ -11,13 +11,13 @@ within bytes head v to e h l =
     omega arith
 
 pub overflow_add-head : goal.overflow_add-head
-overflow_add-head c = let z = within c.args.bytes.now c.loop-v.head c.loop-v.-v c.args.to c.loop-v.invariant (omega arith) (omega arith) in omega arith
+overflow_add-head c = let z = within c.args.bytes.now c.loop-v.head c.loop-v._v c.args.to c.loop-v.invariant (omega arith) (omega arith) in omega arith
 
 pub bounds-bytes-head : goal.bounds-bytes-head
-bounds-bytes-head c = let z = within c.args.bytes.now c.loop-v.head c.loop-v.-v c.args.to c.loop-v.invariant (omega arith) (omega arith) in omega arith
+bounds-bytes-head c = let z = within c.args.bytes.now c.loop-v.head c.loop-v._v c.args.to c.loop-v.invariant (omega arith) (omega arith) in omega arith
 
 pub overflow_add-head-in-loop-v : goal.overflow_add-head-in-loop-v
-overflow_add-head-in-loop-v c = let z = within c.args.bytes.now c.loop-v.head c.loop-v.-v c.args.to c.loop-v.invariant (omega arith) (omega arith) in omega arith
+overflow_add-head-in-loop-v c = let z = within c.args.bytes.now c.loop-v.head c.loop-v._v c.args.to c.loop-v.invariant (omega arith) (omega arith) in omega arith
 
 pub loop-v-preserved : goal.loop-v-preserved
-loop-v-preserved c = ap (λ (k : ℕ). end_from c.args.bytes.now k) c.loop-v.invariant ∙ sym (head_more c.args.bytes.now c.loop-v.-v)
+loop-v-preserved c = ap (λ (k : ℕ). end_from c.args.bytes.now k) c.loop-v.invariant ∙ sym (head_more c.args.bytes.now c.loop-v._v)

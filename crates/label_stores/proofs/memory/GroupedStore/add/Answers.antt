@@ -14,19 +14,12 @@ invariant_of-self c =
     let at : ℕ = s.fill.total + s.fill.count in
     let inside : at ≤ length s.bytes.now = omega (arith, s.wide, s.fill) in
     let after : Fill = c.with_label.result in
-    let b : List ℕ = c.lead.new.bytes in (
-      omega (arith, c.note.auto.starts, s.listed, c.with_label.ensures.rooms),
-      (
-        omega (arith, c.lead.auto.bytes, s.wide, c.with_label.ensures.rooms),
-        (
-          omega (arith, grouped_used s.bytes.now label at n inside s.used b after.count c.lead.ensures c.with_label.ensures.count, c.with_label.ensures),
-          (
-            grouped_sum s.bytes.now label at n inside s.used b after.count c.lead.ensures c.with_label.ensures.count s.fill.total after.total s.sum c.with_label.ensures.total,
-            (
-              groups_more s.bytes.now label at n inside s.used b after.count c.lead.ensures c.with_label.ensures.count s.starts.now c.note.new.starts c.note.ensures (omega (arith, s.listed, a)) s.groups,
-              (short_more s.bytes.now label at n inside s.used b after.count c.lead.ensures c.with_label.ensures.count a.2 s.short, tt),
-            ),
-          ),
-        ),
-      ),
-    )
+    let b : List ℕ = c.lead.new.bytes in
+    record {
+      listed = omega (arith, c.note.auto.starts, s.listed, c.with_label.ensures.rooms);
+      wide = omega (arith, c.lead.auto.bytes, s.wide, c.with_label.ensures.rooms);
+      used = omega (arith, grouped_used s.bytes.now label at n inside s.used b after.count c.lead.ensures c.with_label.ensures.count, c.with_label.ensures);
+      sum = grouped_sum s.bytes.now label at n inside s.used b after.count c.lead.ensures c.with_label.ensures.count s.fill.total after.total s.sum c.with_label.ensures.total;
+      groups = groups_more s.bytes.now label at n inside s.used b after.count c.lead.ensures c.with_label.ensures.count s.starts.now c.note.new.starts c.note.ensures (omega (arith, s.listed, a)) s.groups;
+      short = short_more s.bytes.now label at n inside s.used b after.count c.lead.ensures c.with_label.ensures.count a.2 s.short;
+    }

@@ -29,4 +29,11 @@ invariant_of-result c =
       | in-Err w ↦ omega (arith, ap (λ (x : Fill). x.room) w.fill-is, ap (λ (x : Fill). x.places) w.fill-is, w.new-fill-in-Err.ensures.rooms)
     ] in
     let e = grouped_none c.args.bytes.now fill.count fill.total n t in
-    (p, (r, (e.0, (e.1, ((λ g h. absurd (omega arith)), ((λ v h. absurd (omega arith)), tt))))))
+    record {
+      listed = p;
+      wide = r;
+      used = e.0;
+      sum = e.1;
+      groups = λ g h. absurd (omega arith);
+      short = λ v h. absurd (omega arith);
+    }

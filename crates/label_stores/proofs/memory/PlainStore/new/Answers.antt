@@ -23,4 +23,9 @@ invariant_of-result c =
       | in-Ok w ↦ omega (arith, ap (λ (x : Fill). x.room) w.fill-is, w.new-fill.ensures.rooms)
       | in-Err w ↦ omega (arith, ap (λ (x : Fill). x.room) w.fill-is, w.new-fill-in-Err.ensures.rooms)
     ] in
-    (p, (r, (plain_none c.args.bytes.now c.args.starts.now fill.count fill.total n t, (ordered_none c.args.starts.now fill.count fill.total n, tt))))
+    record {
+      listed = p;
+      wide = r;
+      sum = plain_none c.args.bytes.now c.args.starts.now fill.count fill.total n t;
+      ordered = ordered_none c.args.starts.now fill.count fill.total n;
+    }
