@@ -139,29 +139,26 @@ def compare_in_python(rng, lists):
 
 # ------------------------------------------------- book against the written definitions
 
-TREE = "childFrom down lookFrom grow enterTag enterTags treeOf climbFrom bytesIn"
-BOOK = "most earliest stepsOf nodes labelBytes laterRow nextRow absentMoves rowOf arrive arriveAll rowsOf"
-CALLS = "takes enterOld enterNew enter onLiveRow findIn find tagWith spell spellBuffer double"
-UNFOLDING = f"unfolding spelled shared sameWord {TREE} {BOOK} {CALLS}"
+TREE = "child_from down look_from grow enter_tag enter_tags tree_of climb_from bytes_in"
+BOOK = "most earliest steps_of nodes label_bytes later_row next_row absent_moves row_of arrive arrive_all rows_of"
+CALLS = "takes enter_old enter_new enter on_live_row find_in find tag_with spell spell_buffer double"
+UNFOLDING = f"unfolding spelled shared same_word {TREE} {BOOK} {CALLS}"
 REFUSALS = "EmptyTag LongTag BadByte RowHolds NoLiveRow NoNodeRoom NoByteRoom NoSuchTicket ShortBuffer NoNextRoom".split()
 SAYS = {"enter": "Entered", "change": "Changed", "strike": "Struck", "spell": "Spelled", "double": "Doubled",
         "found": "Held", "absent": "Absent"}
-HEADER = f"""use mathlib.Core.Path.{{_≡_, refl}}
-use mathlib.Core.List.{{List, [], _∷_, map}}
-use Prim.Native.Nat.{{ℕ}}
-use Rattle·std.specs.declared.option.Option.the-variants.{{Some, None}}
-use Rattle·tags.specs.declared.refusal.MapFault.the-variants.{{LastRoom}}
-use Rattle·tags.specs.declared.refusal.Refusal.the-variants.{{{', '.join(REFUSALS)}}}
-use Rattle·tags.specs.Refusals.{{refusalNumber, mapFaultNumber}}
-use Rattle·tags.specs.Tags.{{spelled}}
-use Rattle·rules·specs.declared.step.Step.the-variants.{{By32}}
-use Rattle·rules·specs.declared.answers.Found.the-variants.{{Held, Absent}}
-use Rattle·rules·specs.declared.answers.Answer.the-variants.{{Entered, Changed, Struck, Looked, Spelled, Doubled, Refused}}
-use Rattle·rules·specs.Words.{{shared, sameWord}}
-use Rattle·rules·specs.Tree.{{Tree, bare, nodeCount, Look, there, lacks, lookFor, movesOf, climb, {TREE.replace(' ', ', ')}}}
-use Rattle·rules·specs.Book.{{Row, Arrival, {BOOK.replace(' ', ', ')}}}
-use Rattle·rules·specs.Calls.{{Book, {CALLS.replace(' ', ', ')}}}
-use Rattle·rules·specs.Runs.{{Request, Enter, Change, Find, Strike, Spell, Double, Reply, replies, bookAfter}}
+HEADER = f"""use Rattle.std.specs.Prelude.{{◌≡◌, ℕ, List, [], ◌∷◌, map, Some, None, refl}}
+use Rattle.tags.specs.declared.refusal.MapFault.TheVariants.{{LastRoom}}
+use Rattle.tags.specs.declared.refusal.Refusal.TheVariants.{{{', '.join(REFUSALS)}}}
+use Rattle.tags.specs.Refusals.{{refusal_number, map_fault_number}}
+use Rattle.tags.specs.Tags.{{spelled}}
+use Rattle.rules.specs.declared.step.Step.TheVariants.{{By32}}
+use Rattle.rules.specs.declared.answers.Found.TheVariants.{{Held, Absent}}
+use Rattle.rules.specs.declared.answers.Answer.TheVariants.{{Entered, Changed, Struck, Looked, Spelled, Doubled, Refused}}
+use Rattle.rules.specs.Words.{{shared, same_word}}
+use Rattle.rules.specs.Tree.{{Tree, bare, node_count, Look, there, lacks, look_for, moves_of, climb, {TREE.replace(' ', ', ')}}}
+use Rattle.rules.specs.Book.{{Row, Arrival, {BOOK.replace(' ', ', ')}}}
+use Rattle.rules.specs.Calls.{{Book, {CALLS.replace(' ', ', ')}}}
+use Rattle.rules.specs.Runs.{{Request, Enter, Change, Find, Strike, Spell, Double, Reply, replies, book_after}}
 """
 
 # the left side, given by the definitions, is the literal on the right, both of the type `kind`
@@ -169,7 +166,7 @@ Theorem = collections.namedtuple("Theorem", "name kind left right")
 
 
 def theorem_text(t):
-    return f"{t.name} : _≡_ {{A = {t.kind}}} ({t.left}) ({t.right})\n{UNFOLDING}\n{t.name} = refl\n"
+    return f"{t.name} : ◌≡◌ {{A = {t.kind}}} ({t.left}) ({t.right})\n{UNFOLDING}\n{t.name} = refl\n"
 
 
 def listed(items):
@@ -209,7 +206,7 @@ def rows_text(book):
 
 
 def book_text(book):
-    return record(step="By32", rows=rows_text(book), room=book.room, coming=listed(book.to_come), byteRoom=book.byte_room)
+    return record(step="By32", rows=rows_text(book), room=book.room, coming=listed(book.to_come), byte_room=book.byte_room)
 
 
 def tree_text(tree):
@@ -230,20 +227,20 @@ def theorems(n, rooms, calls, replies, book, tree):
              f"abbrev start{n} : Book ℕ\nstart{n} = {book_text(Book(*rooms))}\n\n"
              f"abbrev tree{n} : Tree\ntree{n} = {tree_text(tree)}\n")
     run = [Theorem(f"replies{n}", "List (Reply ℕ)", f"replies start{n} calls{n}", listed(map(reply_text, calls, replies))),
-           Theorem(f"after{n}", "Book ℕ", f"bookAfter start{n} calls{n}", book_text(book))]
+           Theorem(f"after{n}", "Book ℕ", f"book_after start{n} calls{n}", book_text(book))]
     if not book.rows:
-        still = f"map (λ (tag : List ℕ). movesOf (lookFor By32 bare tag)) {tags}"
+        still = f"map (λ (tag : List ℕ). moves_of (look_for By32 bare tag)) {tags}"
         return short, run + [Theorem(f"still{n}", "List ℕ", still, listed(tree.look(tag)[1] for tag in asked))]
     # some of the tags arrive a second time, which changes nothing
     twice = book.rows + book.rows[::-2]
     arrivals = listed(record(tag=listed(row.tag), value=value_of(row)) for row in twice)
-    totals = (f"(nodes {{V = ℕ}} {rows_text(book)} ∷ labelBytes {{V = ℕ}} {rows_text(book)}"
-              f" ∷ nodeCount (tree{n} .edges) ∷ bytesIn (tree{n} .labels) ∷ [])")
+    totals = (f"(nodes {{V = ℕ}} {rows_text(book)} ∷ label_bytes {{V = ℕ}} {rows_text(book)}"
+              f" ∷ node_count tree{n}.edges ∷ bytes_in tree{n}.labels ∷ [])")
     return short, run + [
-        Theorem(f"rows{n}", "List (Row ℕ)", f"rowsOf By32 {arrivals}", rows_text(book)),
+        Theorem(f"rows{n}", "List (Row ℕ)", f"rows_of By32 {arrivals}", rows_text(book)),
         Theorem(f"totals{n}", "List ℕ", totals, listed([book.nodes(), book.label_bytes()] * 2)),
-        Theorem(f"grown{n}", "Tree", f"treeOf By32 {listed(listed(row.tag) for row in twice)}", tree_text(tree)),
-        Theorem(f"looks{n}", "List Look", f"map (lookFor By32 tree{n}) {tags}", listed(look_text(tree, tag) for tag in asked)),
+        Theorem(f"grown{n}", "Tree", f"tree_of By32 {listed(listed(row.tag) for row in twice)}", tree_text(tree)),
+        Theorem(f"looks{n}", "List Look", f"map (look_for By32 tree{n}) {tags}", listed(look_text(tree, tag) for tag in asked)),
         Theorem(f"climbs{n}", "List (List ℕ)", f"map (climb By32 tree{n}) {listed(row.ticket for row in book.rows)}",
                 listed(listed(row.spelled) for row in book.rows))]
 
@@ -264,7 +261,7 @@ class Scratch:
         here = pathlib.Path(__file__).resolve().parent.parent
         self.folder, self.proofs = pathlib.Path(folder), pathlib.Path(folder) / "crates/rules/proofs"
         for crate in ("tags", "rules"):
-            shutil.copytree(here / "crates" / crate, self.folder / "crates" / crate)
+            shutil.copytree(here / "crates" / crate, self.folder / "crates" / crate, ignore=shutil.ignore_patterns("out"))
         (self.folder / "crates.txt").write_text("tags:\nrules: tags\n")
 
     def add(self, module, texts):
@@ -274,7 +271,7 @@ class Scratch:
 
     def check(self):
         """Whether all is proved, and the checker's complaints: the theorem's name and the text."""
-        done = subprocess.run(["rt", "dev", "rules"], cwd=self.folder, text=True,
+        done = subprocess.run(["rt", "check"], cwd=self.folder / "crates/rules", text=True,
                               stdout=subprocess.PIPE, stderr=subprocess.STDOUT)
         blamed = re.findall(r"^\S+: error: `(\w+)`(.*(?:\n  .*)*)", done.stdout, re.M)
         return done.returncode == 0 and "logic=proved" in done.stdout, blamed or [("the checker: ", done.stdout[-1500:])]
@@ -282,7 +279,7 @@ class Scratch:
 
 def compare_with_definitions(rng, runs):
     seen, spoiled, table = collections.Counter(), [], " ∷ ".join(REFUSALS[:9])
-    left = f"mapFaultNumber LastRoom ∷ map refusalNumber ({table} ∷ NoNextRoom LastRoom ∷ [])"
+    left = f"map_fault_number LastRoom ∷ map refusal_number ({table} ∷ NoNextRoom LastRoom ∷ [])"
     numbers = Theorem("numbers", "List ℕ", left, listed([5, *range(1, 11)]))
     with tempfile.TemporaryDirectory() as folder:
         scratch, texts = Scratch(folder), [theorem_text(numbers)]
