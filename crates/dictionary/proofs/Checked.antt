@@ -1,7 +1,7 @@
 -- the bytes of a tag's spelled form
 use Rattle.std.proofs.Common.{◌≡◌, ℕ, ◌-◌, ◌≤◌, List, length, take, replicate, is_some, None, ap, arith}
 use lib.Seq.{take-append_seam}
-use Rattle.tags.specs.Tags.{tag_refusal, WellFormed, spelled, padded, SpelledFrom}
+use Rattle.tags.specs.Tags.{tag_refusal, WellFormed, spelled, SpelledFrom}
 use Rattle.tags.proofs.Forms.{few_bytes, length_spelled}
 
 pub formed : (tag : List ℕ) → tag_refusal tag ≡ None → WellFormed tag
