@@ -1,4 +1,4 @@
-use Rattle.std.proofs.Common.{sym, ap, ◌∙◌}
+use Rattle.std.proofs.Common.{sym, ap, ◌∙◌, rules}
 use Rattle.dictionary.proofs.Fresh.{fit_of}
 use Rattle.dictionary.proofs.Alike.{unfit_of, served}
 use Rattle.dictionary.proofs.serve.serve.Goals as goal
@@ -8,7 +8,7 @@ returns g c = record {
   served = λ e.
       let fit = c.new-d.ensures.fit ∙ fit_of (g.M.NodeMap.meaning c.args.map) (g.L.LabelStore.meaning c.args.store) (g.S.Shelf.meaning c.args.shelf) (sym e) in
       let sh = c.new-d.ensures.shows fit in
-      served _ _ _ _ _ _ _ _ _ _ (c.run.ensures.ran _ (fit, sh)) (c.run.ensures.shows _ (fit, sh)).1;
+      served _ _ _ _ _ _ _ _ _ _ (c.run.ensures.ran _ (search (rules, fit), sh)) (c.run.ensures.shows _ (search (rules, fit), sh)).1;
   refused = λ e.
       let unfit = c.new-d.ensures.fit ∙ unfit_of (g.M.NodeMap.meaning c.args.map) (g.L.LabelStore.meaning c.args.store) (g.S.Shelf.meaning c.args.shelf) e in
       let r = c.run.ensures.unfit unfit in
