@@ -8,8 +8,8 @@ loop-j-init c = (number_none c.args.bytes.now c.args.at, omega arith)
 pub overflow_mul-number : goal.overflow_mul-number
 overflow_mul-number c = let p : 2 ^ (8 * c.loop-j.j) ≤ 2 ^ 40 = pow_mono (let e : 8 * c.loop-j.j ≤ 40 = omega arith in e) in omega arith
 
-pub overflow_add-number_in-loop-j : goal.overflow_add-number_in-loop-j
-overflow_add-number_in-loop-j c = let p : 2 ^ (8 * c.loop-j.j) ≤ 2 ^ 40 = pow_mono (let e : 8 * c.loop-j.j ≤ 40 = omega arith in e) in omega arith
+pub overflow_add-number-in-loop-j : goal.overflow_add-number-in-loop-j
+overflow_add-number-in-loop-j c = let p : 2 ^ (8 * c.loop-j.j) ≤ 2 ^ 40 = pow_mono (let e : 8 * c.loop-j.j ≤ 40 = omega arith in e) in omega arith
 
 pub loop-j-preserved : goal.loop-j-preserved
 loop-j-preserved c = (

@@ -38,7 +38,14 @@ invariant_of-to c =
     let s : Set = c.args.from in
     let w : 2 * 2 ^ s.log ≤ s.large = wider s c.requires.1.0 in
     let e : set_start (s.log + 1) s.large ≡ 6 * s.large - set_start s.log s.large = other_start s.log s.large w in
-    (omega (arith, pow_more s.log), (omega arith, (omega arith, (s.most, (omega arith, (omega (arith, other_fits s.log s.large w, pow_more s.log), tt))))))
+    record {
+      wide = omega (arith, pow_more s.log);
+      small = omega arith;
+      reach = omega arith;
+      most = s.most;
+      begins = omega arith;
+      fits = omega (arith, other_fits s.log s.large w, pow_more s.log);
+    }
 
 pub loop-done-init : goal.loop-done-init
 loop-done-init c =
@@ -51,7 +58,7 @@ key_of-key-requires c =
     let t : Turn c.args.from.log c.args.from.large c.clear.new.bytes c.loop-done.bytes (c.loop-done.done + 1)
     = turned c.args.from c.args.n c.args.bytes.now c.clear.new.bytes c.requires.1.0 c.requires.1.1.0 c.requires.1.1.1.0 c.requires.1.1.1.1
     c.clear.ensures c.loop-done.bytes c.loop-done.done c.loop-done.invariant c.loop-done-test.true in
-    ((omega arith, (omega arith, t.inside)), t.near)
+    record { large_in_bounds = (omega arith, (omega arith, t.inside)); v_bound = t.near }
 
 pub put-requires : goal.put-requires
 put-requires c =

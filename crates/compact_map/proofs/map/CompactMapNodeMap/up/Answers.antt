@@ -21,10 +21,11 @@ pub key_of-key-requires : goal.key_of-key-requires
 key_of-key-requires c =
     let s : CompactMap = c.args.self.now in
     let used : 2 < s.set.large = omega arith in
-    let i : place_at (bytes_of s) (12 * s.set.large) c.args.v < 2 ^ s.set.log = (table_of s used).inside c.args.v (omega arith) (omega arith) in (
-      (omega (arith, s.whole used), (omega arith, i)),
-      (table_of s used).full.short (place_at (bytes_of s) (12 * s.set.large) c.args.v) i ((table_of s used).taken c.args.v (omega arith) (omega arith)),
-    )
+    let i : place_at (bytes_of s) (12 * s.set.large) c.args.v < 2 ^ s.set.log = (table_of s used).inside c.args.v (omega arith) (omega arith) in
+    record {
+      large_in_bounds = (omega (arith, s.whole used), (omega arith, i));
+      v_bound = (table_of s used).full.short (place_at (bytes_of s) (12 * s.set.large) c.args.v) i ((table_of s used).taken c.args.v (omega arith) (omega arith));
+    }
 
 pub returns : goal.returns
 returns c =

@@ -11,8 +11,8 @@ returns-then-u-self c =
     let s : CompactMap = c.args.self.now in
     sym (cond-false (ltb c.args.u (count_of (meaning_of s))) _ _ (le-ltb c.args.u (count_of (meaning_of s)) (omega (arith, count_is s))))
 
-pub returns-then-c-ge-SYMBOL-COUNT : goal.returns-then-c-ge-SYMBOL-COUNT
-returns-then-c-ge-SYMBOL-COUNT c =
+pub returns-then-c-ge-SYMBOL_COUNT : goal.returns-then-c-ge-SYMBOL_COUNT
+returns-then-c-ge-SYMBOL_COUNT c =
     let s : CompactMap = c.args.self.now in
     sym (cond-true (ltb c.args.u (count_of (meaning_of s))) _ _ (lt-ltb c.args.u (count_of (meaning_of s)) (omega (arith, count_is s)))
     ∙ cond-false (ltb c.args.c 8192) _ _ (le-ltb c.args.c 8192 (omega arith)))

@@ -12,7 +12,14 @@ invariant_of-set c =
     let z : PowerOf (length c.args.bytes.now) 14 (Some c.args.top) = c.requires.1 in
     let low : 2 ^ 4 ≤ 2 ^ c.args.top = pow_mono z.1 in
     let high : 2 ^ c.args.top ≤ 2 ^ 15 = pow_mono z.2 in
-    (refl, (omega arith, (omega (arith, z.0), (omega (arith, z.0), (omega arith, (omega (arith, z.0), tt))))))
+    record {
+      wide = refl;
+      small = omega arith;
+      reach = omega (arith, z.0);
+      most = omega (arith, z.0);
+      begins = omega arith;
+      fits = omega (arith, z.0);
+    }
 
 pub invariant_of-result : goal.invariant_of-result
 invariant_of-result c =
@@ -21,7 +28,18 @@ invariant_of-result c =
     let is : length c.args.bytes.now ≡ 14 * 2 ^ c.args.top = z.0 in
     let f : Filled By32 4 (length c.args.bytes.now / 14) (key_in By32 c.clear.new.bytes 4 (length c.args.bytes.now / 14)) 0 c.clear.new.bytes c.clear.new.bytes
     = filled_again 4 (length c.args.bytes.now / 14) (omega arith) _ 0 c.args.bytes.now c.clear.new.bytes (c.clear.ensures _) in
-    (omega arith, (z.1, (z.2, ((λ used. omega arith), ((λ used. c.clear.auto.bytes ∙ (let e : length c.args.bytes.now ≡ 14 * (length c.args.bytes.now / 14) = omega arith in e)), ((λ k h. omega (arith, h.0)), (omega arith, ((λ u v h. absurd (omega (arith, h.0, h.2))), ((λ v h. absurd (omega (arith, h.0, h.1))), ((λ k used. f k), tt))))))))))
+    record {
+      wide = omega arith;
+      rooms = z.1;
+      most = z.2;
+      least = λ used. omega arith;
+      whole = λ used. c.clear.auto.bytes ∙ (let e : length c.args.bytes.now ≡ 14 * (length c.args.bytes.now / 14) = omega arith in e);
+      refused = λ k h. omega (arith, h.0);
+      fits = omega arith;
+      apart = λ u v h. absurd (omega (arith, h.0, h.2));
+      parents = λ v h. absurd (omega (arith, h.0, h.1));
+      filled = λ k used. f k;
+    }
 
 pub returns : goal.returns
 returns c =

@@ -43,7 +43,18 @@ invariant_of-self c =
     = asked s c.args.self.now c.args.u c.args.c c.take-bytes.ensures c.requires.0 c.requires.1.0 c.requires.1.1.0 c.requires.1.1.1 in
     let g : Stored By32 s.set.log s.set.large (s.later + 1) c.put.new.bytes
     = grown_stored s c.args.u c.args.c a.low a.small a.room a.free c.put.new.bytes c.put.auto.bytes c.put.ensures in
-    (s.wide, (s.rooms, (s.most, (s.least, ((λ used. c.put.auto.bytes ∙ s.whole used), ((λ k h. omega (arith, h.0, a.used)), (a.room, ((λ u v h. g.keys.apart u v h.0 h.1 h.2 h.3 h.4), ((λ v h. g.keys.down v h.0 h.1), ((λ k used. g.filled k), tt))))))))))
+    record {
+      wide = s.wide;
+      rooms = s.rooms;
+      most = s.most;
+      least = s.least;
+      whole = λ used. c.put.auto.bytes ∙ s.whole used;
+      refused = λ k h. omega (arith, h.0, a.used);
+      fits = a.room;
+      apart = λ u v h. g.keys.apart u v h.0 h.1 h.2 h.3 h.4;
+      parents = λ v h. g.keys.down v h.0 h.1;
+      filled = λ k used. g.filled k;
+    }
 
 pub returns : goal.returns
 returns c =

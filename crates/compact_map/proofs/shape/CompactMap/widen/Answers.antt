@@ -67,7 +67,18 @@ invariant_of-self c =
     let p : 2 ^ t.log ≡ 2 * 2 ^ s.set.log = ap (λ (x : ℕ). 2 ^ x) el ∙ pow_more s.set.log in
     let g : Stored By32 t.log t.large s.later c.double-set.new.bytes
     = stored_now s t c.double-set.new.bytes m el eg c.double-set.auto.bytes c.double-set.ensures.filled in
-    (eg ∙ s.wide, (omega arith, (s.most, ((λ used. omega (arith, s.least (let q : 2 < s.set.large = omega arith in q))), ((λ used. c.double-set.auto.bytes ∙ s.whole (let q : 2 < s.set.large = omega arith in q) ∙ ap (λ (x : ℕ). 14 * x) (sym eg)), ((λ k h. omega (arith, h.0)), (omega arith, ((λ u v h. g.keys.apart u v h.0 h.1 h.2 h.3 h.4), ((λ v h. g.keys.down v h.0 h.1), ((λ k used. g.filled k), tt))))))))))
+    record {
+      wide = eg ∙ s.wide;
+      rooms = omega arith;
+      most = s.most;
+      least = λ used. omega (arith, s.least (let q : 2 < s.set.large = omega arith in q));
+      whole = λ used. c.double-set.auto.bytes ∙ s.whole (let q : 2 < s.set.large = omega arith in q) ∙ ap (λ (x : ℕ). 14 * x) (sym eg);
+      refused = λ k h. omega (arith, h.0);
+      fits = omega arith;
+      apart = λ u v h. g.keys.apart u v h.0 h.1 h.2 h.3 h.4;
+      parents = λ v h. g.keys.down v h.0 h.1;
+      filled = λ k used. g.filled k;
+    }
 
 pub returns : goal.returns
 returns c =
