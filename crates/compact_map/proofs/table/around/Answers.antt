@@ -1,4 +1,4 @@
-use Rattle.std.proofs.Common.{◌≡◌, ℕ, ◌-◌, ◌%◌, ◌^◌, sym, ap, ◌∙◌}
+use Rattle.std.proofs.Common.{ℕ, ◌-◌, ◌%◌, sym, ap, ◌∙◌}
 use lib.Bits.{bit_and, and_mask}
 use Rattle.compact_map.proofs.table.around.Goals as goal
 
