@@ -1,4 +1,4 @@
-use Rattle.std.proofs.Common.{sym}
+use Rattle.std.proofs.Common.{sym, arith}
 use Rattle.std.proofs.lemmas.Result.{err_from_is_err_and}
 use Rattle.rules.specs.declared.step.Step.TheVariants.{By32}
 use Rattle.parts.proofs.Answered.{child_in, child_out}
@@ -14,7 +14,9 @@ returns-in_err-check_pair c =
     rw (p.1, p.2) (sym (child_out By32 (meaning_of s) c.args.u c.args.c _ (pair_out (meaning_of s) c.args.u c.args.c _ c.in_err-check_pair.ensures)))
 
 pub find-requires : goal.find-requires
-find-requires c = pair_in_lem (meaning_of c.args.self.now) c.args.u c.args.c c.in_ok-check_pair.ensures
+find-requires c =
+    let h = pair_in_lem (meaning_of c.args.self.now) c.args.u c.args.c c.in_ok-check_pair.ensures in
+    (omega (arith, h.0), h.1)
 
 pub returns : goal.returns
 returns c =

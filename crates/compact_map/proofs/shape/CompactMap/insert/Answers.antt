@@ -50,9 +50,9 @@ invariant_of-self c =
       least = s.least;
       whole = λ used. c.put.auto.bytes ∙ s.whole used;
       refused = λ k h. omega (arith, h.0, a.used);
-      fits = a.room;
-      apart = λ u v h. g.keys.apart u v h.0 h.1 h.2 h.3 h.4;
-      parents = λ v h. g.keys.down v h.0 h.1;
+      fits = omega (arith, a.room);
+      apart = λ u v h. g.keys.apart u v h.0 h.1 (omega (arith, h.2)) (omega (arith, h.3)) h.4;
+      parents = λ v h. g.keys.down v h.0 (omega (arith, h.1));
       filled = λ k used. g.filled k;
     }
 
