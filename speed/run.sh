@@ -4,9 +4,8 @@
 set -eu
 cd "$(dirname "$0")/.."
 mkdir -p target
-rt staticlib speed > target/speed.log 2>&1 || { tail -20 target/speed.log; exit 1; }
-kit=$(dirname "$(dirname "$(rt doc)")")
-rustc -C opt-level=3 -o target/speed speed/main.rs -L target/staticlib -l static=speed -L "$kit/lib" -l static=rattle_c
+(cd crates/speed && rt lib) > target/speed.log 2>&1 || { tail -20 target/speed.log; exit 1; }
+rustc -C opt-level=3 -o target/speed speed/main.rs -L crates/speed/out -l static=speed
 target/speed
 [ "${1:-}" = --instructions ] || exit 0
 for n in 1000 5000 25000; do
