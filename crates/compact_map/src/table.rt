@@ -120,8 +120,8 @@ pub(crate) fn put(bytes: &mut [u8], set: Set, v: usize, key: u32)
 
 // The key of node v.
 pub(crate) fn key_of(bytes: &[u8], set: Set, v: usize) -> u32
-    requires large_in_bounds { (14 * set.large ≤ length bytes.now) × ((v < set.large) × (place_at bytes.now (12 * set.large) v < 2 ^ set.log)) }
-    requires v_bound { displacement_in (slot_at bytes.now (set_start set.log set.large) (place_at bytes.now (12 * set.large) v)) < 2 ^ set.log }
+    requires inside { (14 * set.large ≤ length bytes.now) × ((v < set.large) × (place_at bytes.now (12 * set.large) v < 2 ^ set.log)) }
+    requires near { displacement_in (slot_at bytes.now (set_start set.log set.large) (place_at bytes.now (12 * set.large) v)) < 2 ^ set.log }
     ensures { result ≡ key_in By32 bytes.now set.log set.large v }
 {
     let at = read_number(bytes, 12 * set.large + 2 * v, 2) as usize;

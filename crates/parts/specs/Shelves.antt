@@ -6,7 +6,7 @@ use Rattle.parts.specs.declared.shelf.ShelfFault.TheVariants.{NoPlace}
 unfoldable pub get_answer : {V : Type 0} → List (Option V) → ℕ → Result (Option V) ShelfFault
 get_answer places n = cond (nat_lt n (length places)) (Ok (slice_index_or places n None)) (Err NoPlace)
 
--- put and clear; `set` beyond the last place changes nothing
+-- put and clear; `slice_set` beyond the last place changes nothing
 unfoldable pub set_answer : {V : Type 0} → List (Option V) → ℕ → Result (Unit {0}) ShelfFault
 set_answer places n = cond (nat_lt n (length places)) (Ok tt) (Err NoPlace)
 

@@ -1,4 +1,4 @@
--- the bytes of a well_formed tag
+-- the bytes of a well-formed tag
 use Rattle.std.proofs.Common.{◌≡◌, ℕ, zero, suc, ◌<◌, false, eqb, ltb, List, [], ◌∷◌, get_or, arith}
 use Rattle.std.proofs.lemmas.Bool.{eqb-false, ltb-false, or_parts}
 use Rattle.tags.specs.Tags.{is_bad, any_bad, WellFormed, spelled}

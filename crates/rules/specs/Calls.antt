@@ -77,7 +77,7 @@ change book tag value = on_live_row book tag (Some value)
 abbrev pub strike : {V : Type 0} → Book V → List ℕ → Turn (Result ℕ Refusal) V
 strike book tag = on_live_row book tag None
 
--- what the rows say of a well_formed tag: a struck row is absent, with its own moves
+-- what the rows say of a well-formed tag: a struck row is absent, with its own moves
 unfoldable pub find_in : {V : Type 0} → Step → List (Row V) → List ℕ → Found V
 find_in step rows tag = elim (row_of rows tag) [
   | None ↦ Absent (absent_moves step rows tag)

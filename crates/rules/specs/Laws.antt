@@ -70,7 +70,7 @@ pub record Agree {V : Type 0} (step : Step) (t : Tree) (rows : List (Row V)) (ta
 abbrev pub arrived_tags : {V : Type 0} → List (Arrival V) → List (List ℕ)
 arrived_tags {V} arrivals = map (λ (a : Arrival V). a.tag) arrivals
 
--- the tree of any well_formed tags agrees with the book's rows for the same arrivals
+-- the tree of any well-formed tags agrees with the book's rows for the same arrivals
 abbrev pub DescentMatchesBook : Type 0 → Type 0
 DescentMatchesBook V = (step : Step) (arrivals : List (Arrival V)) → AllWellFormed (arrived_tags arrivals) → (tag : List ℕ) → WellFormed tag
     → Agree step (tree_of step (arrived_tags arrivals)) (rows_of step arrivals) tag

@@ -1,6 +1,6 @@
 use tags::refusal::Refusal;
 
-// What a find of a well_formed tag answers. A move is a passage to a child on the way down the tree.
+// What a find of a well-formed tag answers. A move is a passage to a child on the way down the tree.
 #[derive(Clone, Copy)]
 pub enum Found<V> {
     Held { ticket: u32, value: V, moves: u32 },

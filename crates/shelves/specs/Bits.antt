@@ -40,6 +40,6 @@ bit_places bytes = map (place_at bytes) (range_with_len 0 (4 * size_of most_byte
 abbrev pub bit_new : List ℕ → List ℕ
 bit_new bytes = if_taken most_bytes bytes (replicate (length bytes) 0)
 
--- the lent bytes after a write to place n; `set` beyond the last byte changes nothing
+-- the lent bytes after a write to place n; `slice_set` beyond the last byte changes nothing
 abbrev pub bit_set : List ℕ → ℕ → Option Bool → List ℕ
 bit_set bytes n place = if_taken most_bytes bytes (with_place bytes n place)

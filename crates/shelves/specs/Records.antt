@@ -15,6 +15,6 @@ record_places list = cond (size_taken most_places (length list)) list []
 abbrev pub record_new : {V : Type 0} → List (Option V) → List (Option V)
 record_new list = if_taken most_places list (blanks (length list))
 
--- the lent list after a write to place n; `set` beyond the last place changes nothing
+-- the lent list after a write to place n; `slice_set` beyond the last place changes nothing
 abbrev pub record_set : {V : Type 0} → List (Option V) → ℕ → Option V → List (Option V)
 record_set list n place = if_taken most_places list (slice_set list n place)

@@ -1,4 +1,4 @@
--- what a well_formed tag has
+-- what a well-formed tag has
 use Rattle.std.proofs.Common.{◌≡◌, ℕ, ◌+◌, ◌<◌, ◌≤◌, Bool, true, false, cond, eqb, ltb, List, [], ◌∷◌, length, is_some, Some, None, Option, refl, arith, length-append}
 use Rattle.std.proofs.lemmas.Bool.{both_ways, eqb-false, ltb-false}
 use Rattle.tags.specs.declared.refusal.Refusal.TheVariants.{EmptyTag, LongTag, BadByte}

@@ -58,7 +58,7 @@ key_of-key-requires c =
     let t : Turn c.args.from.log c.args.from.large c.clear.new.bytes c.loop-done.bytes (c.loop-done.done + 1)
     = turned c.args.from c.args.n c.args.bytes.now c.clear.new.bytes c.requires.1.0 c.requires.1.1.0 c.requires.1.1.1.0 c.requires.1.1.1.1
     c.clear.ensures c.loop-done.bytes c.loop-done.done c.loop-done.invariant c.loop-done-test.true in
-    record { large_in_bounds = (omega arith, (omega arith, t.inside)); v_bound = t.near }
+    record { inside = (omega arith, (omega arith, t.inside)); near = t.near }
 
 pub put-requires : goal.put-requires
 put-requires c =

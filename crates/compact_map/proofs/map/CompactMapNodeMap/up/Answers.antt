@@ -23,8 +23,8 @@ key_of-key-requires c =
     let used : 2 < s.set.large = omega arith in
     let i : place_at (bytes_of s) (12 * s.set.large) c.args.v < 2 ^ s.set.log = (table_of s used).inside c.args.v (omega arith) (omega arith) in
     record {
-      large_in_bounds = (omega (arith, s.whole used), (omega arith, i));
-      v_bound = (table_of s used).full.short (place_at (bytes_of s) (12 * s.set.large) c.args.v) i ((table_of s used).taken c.args.v (omega arith) (omega arith));
+      inside = (omega (arith, s.whole used), (omega arith, i));
+      near = (table_of s used).full.short (place_at (bytes_of s) (12 * s.set.large) c.args.v) i ((table_of s used).taken c.args.v (omega arith) (omega arith));
     }
 
 pub returns : goal.returns
