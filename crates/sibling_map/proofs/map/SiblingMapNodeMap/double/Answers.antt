@@ -1,11 +1,14 @@
-use Rattle.std.proofs.Common.{◌≡◌, ◌+◌, ◌^◌, ◌<◌, Ok, sym, refl, ap, ◌∙◌, arith}
-use lib.Pow.{pow-lt}
+use Rattle.std.proofs.Common.{◌≡◌, ℕ, ◌+◌, ◌^◌, ◌<◌, ◌≤◌, Ok, sym, refl, ap, ◌∙◌, arith}
+use native.Mathlib.Nat.{pow-le-pow_right}
 use Rattle.std.proofs.lemmas.Bool.{true≢false}
 use Rattle.parts.proofs.Powers.{rooms_next, rooms_end}
 use Rattle.parts.proofs.Answered.{double_last, double_more}
 use Rattle.sibling_map.specs.declared.shape.SiblingMap.{SiblingMap}
 use Rattle.sibling_map.specs.Meaning.{capacity, meaning_of}
 use Rattle.sibling_map.proofs.map.SiblingMapNodeMap.double.Goals as goal
+
+fits_larger : (n a b : ℕ) → n < 2 ^ a → a ≤ b → n < 2 ^ b
+fits_larger n a b h l = let m : 2 ^ a ≤ 2 ^ b = pow-le-pow_right (omega arith) l in omega arith
 
 pub returns-then-self : goal.returns-then-self
 returns-then-self c =
@@ -17,10 +20,8 @@ pub invariant_of-self : goal.invariant_of-self
 invariant_of-self c =
     let s : SiblingMap = c.args.self.now in
     let differs : s.log ≡ s.top → ⊥ = c.if-self.false in
-    let less : s.log < s.log + 1 = omega arith in
-    let grows : 2 ^ s.log < 2 ^ (s.log + 1) = pow-lt less in
     record {
-      fits = omega (arith, s.fits);
+      fits = fits_larger _ _ _ s.fits (omega arith);
       rooms = omega (arith, s.rooms);
       most = s.most;
       whole = s.whole;

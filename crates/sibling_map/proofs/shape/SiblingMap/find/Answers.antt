@@ -83,7 +83,8 @@ goes c =
 pub loop-at-smaller : goal.loop-at-smaller
 loop-at-smaller c =
     let e : top c.loop-at.at ≡ c.in-Some.v = ap top c.in-Some.is in
-    subst (λ (x : ℕ). top (at c.args.self.now.records.now c.in-Some.v).next < x) (sym e) (goes c).1
+    let less : top (at c.args.self.now.records.now c.in-Some.v).next < c.in-Some.v = (goes c).1 in
+    omega arith
 
 pub loop-at-preserved : goal.loop-at-preserved
 loop-at-preserved c = (goes c).0
