@@ -145,19 +145,18 @@ CALLS = "takes enter_old enter_new enter on_live_row find_in find tag_with spell
 UNFOLDING = f"unfolding spelled shared same_word {TREE} {BOOK} {CALLS}"
 REFUSALS = "EmptyTag LongTag BadByte RowHolds NoLiveRow NoNodeRoom NoByteRoom NoSuchTicket ShortBuffer NoNextRoom".split()
 SAYS = {"enter": "Entered", "change": "Changed", "strike": "Struck", "spell": "Spelled", "double": "Doubled",
-        "found": "Held", "absent": "Absent"}
-HEADER = f"""use Rattle.std.specs.Prelude.{{◌≡◌, ℕ, List, [], ◌∷◌, map, Some, None, refl}}
+        "found": "holds", "absent": "absent"}
+HEADER = f"""use Rattle.std.specs.Prelude.{{◌≡◌, ℕ, List, [], ◌∷◌, map, Some, None, Ok, Err, refl}}
 use Rattle.tags.specs.declared.refusal.MapFault.TheVariants.{{LastRoom}}
 use Rattle.tags.specs.declared.refusal.Refusal.TheVariants.{{{', '.join(REFUSALS)}}}
 use Rattle.tags.specs.Refusals.{{refusal_number, map_fault_number}}
 use Rattle.tags.specs.Tags.{{spelled}}
 use Rattle.rules.specs.declared.step.Step.TheVariants.{{By32}}
-use Rattle.rules.specs.declared.answers.Found.TheVariants.{{Held, Absent}}
-use Rattle.rules.specs.declared.answers.Answer.TheVariants.{{Entered, Changed, Struck, Looked, Spelled, Doubled, Refused}}
+use Rattle.rules.specs.declared.answers.Answer.TheVariants.{{Entered, Changed, Struck, Looked, Spelled, Doubled}}
 use Rattle.rules.specs.Words.{{shared, same_word}}
 use Rattle.rules.specs.Tree.{{Tree, bare, node_count, Look, there, lacks, look_for, moves_of, climb, {TREE.replace(' ', ', ')}}}
 use Rattle.rules.specs.Book.{{Row, Arrival, {BOOK.replace(' ', ', ')}}}
-use Rattle.rules.specs.Calls.{{Book, {CALLS.replace(' ', ', ')}}}
+use Rattle.rules.specs.Calls.{{Book, holds, absent, {CALLS.replace(' ', ', ')}}}
 use Rattle.rules.specs.Runs.{{Request, Enter, Change, Find, Strike, Spell, Double, Reply, replies, book_after}}
 """
 
@@ -190,9 +189,10 @@ def reply_text(call, reply):
     (kind, *parts), buffer = reply
     numbers = " ".join(map(str, parts))
     if kind == "refused":
-        answer = "Refused " + ("(NoNextRoom LastRoom)" if parts == [10] else REFUSALS[parts[0] - 1])
+        answer = "Err " + ("(NoNextRoom LastRoom)" if parts == [10] else REFUSALS[parts[0] - 1])
     else:
-        answer = f"Looked ({SAYS[kind]} {numbers})" if call[0] == "find" else f"{SAYS[call[0]]} {numbers}"
+        says = f"Looked ({SAYS[kind]} {numbers})" if call[0] == "find" else f"{SAYS[call[0]]} {numbers}"
+        answer = f"Ok ({says})"
     return record(answer=answer, buffer=listed(buffer))
 
 

@@ -1,5 +1,5 @@
 -- the program's dictionary, just opened
-use Rattle.std.proofs.Common.{◌≡◌, ℕ, ◌^◌, ◌<◌, List, [], ◌++◌, length, take, drop, Option, refl, ap, ◌∙◌, subst, arith}
+use Rattle.std.proofs.Common.{◌≡◌, ℕ, ◌^◌, ◌<◌, List, [], ◌++◌, length, take, drop, Option, refl, ap, ◌∙◌, arith}
 use Rattle.std.proofs.lemmas.List.{take_at}
 use Rattle.parts.specs.Maps.{Map}
 use Rattle.parts.specs.Stores.{Store}
@@ -14,11 +14,13 @@ use Rattle.session.specs.Served.{printed_over}
 use Rattle.session.proofs.Laid.{over_all}
 use Rattle.bench.specs.Bench.{bench_text}
 
-at_sizes : (text : List ℕ) → printed_over (map_for capacity (power_for 14336 14)) (new_plain 16384 1024) (blanks 1024) text ≡ bench_text text
+-- what is printed over parts of the program's sizes
+pub at_sizes : (text : List ℕ) → printed_over (map_for capacity (power_for 14336 14)) (new_plain 16384 1024) (blanks 1024) text ≡ bench_text text
 unfolding power_from rooms_after
 at_sizes text = refl
 
-bench_text_lem : (m : Map) (l : Store) (s : List (Option ℕ)) (a b c d : ℕ) (text : List ℕ) → a ≡ 14336 → b ≡ 16384 → c ≡ 1024 → d ≡ 1024
+-- the same for a map, a store and a shelf that were made in memory of these sizes
+pub bench_text_lem : (m : Map) (l : Store) (s : List (Option ℕ)) (a b c d : ℕ) (text : List ℕ) → a ≡ 14336 → b ≡ 16384 → c ≡ 1024 → d ≡ 1024
     → m ≡ map_for capacity (power_for a 14) → l ≡ new_plain b c → s ≡ blanks (size_of most_places d) → printed_over m l s text ≡ bench_text text
 bench_text_lem m l s a b c d text e f g h p q r =
     let mis : m ≡ map_for capacity (power_for 14336 14) = p ∙ ap (λ (n : ℕ). map_for capacity (power_for n 14)) e in
@@ -28,12 +30,6 @@ bench_text_lem m l s a b c d text e f g h p q r =
     ∙ ap (λ (x : Store). printed_over (map_for capacity (power_for 14336 14)) x s text) lis
     ∙ ap (λ (x : List (Option ℕ)). printed_over (map_for capacity (power_for 14336 14)) (new_plain 16384 1024) x text) sis
     ∙ at_sizes text
-
--- what is printed over parts of the program's sizes
-pub printed_bench : (m : Map) (l : Store) (s : List (Option ℕ)) (a b c d : ℕ) (text out out' : List ℕ) (n : ℕ) → a ≡ 14336 → b ≡ 16384 → c ≡ 1024 → d ≡ 1024
-    → m ≡ map_for capacity (power_for a 14) → l ≡ new_plain b c → s ≡ blanks (size_of most_places d) → Printed (printed_over m l s text) out out' n → Printed (bench_text text) out out' n
-printed_bench m l s a b c d text out out' n e f g h p q r made =
-    subst (λ (t : List ℕ). Printed t out out' n) (bench_text_lem m l s a b c d text e f g h p q r) made
 
 -- a text in as many bytes as it has
 pub whole : (text held out none items : List ℕ) (count again len : ℕ) → Printed text [] none count → Printed text held out again → len ≡ count → length held ≡ len → length text < 2 ^ 64

@@ -15,6 +15,7 @@ use std::{env, fs};
 
 // Runs a list on the program's dictionary: a compact map with up to 1,024 slots, a plain store of 16,384 bytes and 1,024
 // labels, and amounts on 1,024 places. What is printed goes into `out` as far as it fits; answers how many bytes it has.
+// The library in crates/door makes such parts in memory that C lends: a crate for these few lines alone is no plainer.
 fn print_bench(text: &[u8], out: &mut [u8]) -> usize
     ensures { Printed (bench_text text.now) out.old out.new result }
 {
@@ -38,21 +39,24 @@ fn transcript(heap: Global, text: &[u8]) -> Result<Vec<u8>, AllocError>
     Ok(out)
 }
 
-// Prints what the list on the standard input asks for or, where files are named, the list in each.
+// Prints what the list on the standard input asks for or, where files are named, the list in each. The program in
+// crates/picture draws lists in the same few lines: a function of both would have no contract, since none says what a
+// file or the standard input holds.
 fn run_lists(rt: &HostRuntime) -> anyhow::Result<()> {
     let heap = rt.alloc();
-    let mut named = false;
-    for name in env::args(rt)?.skip(1) {
-        named = true;
-        let text = fs::read(rt, name.as_str())?;
-        let out = transcript(heap, &text)?;
+    let run = |text: &[u8]| -> anyhow::Result<()> {
+        let out = transcript(heap, text)?;
         rt.stdout().write_all(&out)?;
-    }
-    if !named {
+        Ok(())
+    };
+    let mut names = env::args(rt)?.skip(1).peekable();
+    if names.peek().is_none() {
         let mut text = Vec::new(heap);
         rt.stdin().read_to_end(&mut text)?;
-        let out = transcript(heap, &text)?;
-        rt.stdout().write_all(&out)?;
+        return run(&text);
+    }
+    for name in names {
+        run(&fs::read(rt, name.as_str())?)?;
     }
     Ok(())
 }

@@ -8,130 +8,99 @@ use shelves::bit::BitShelf;
 use shelves::record::RecordShelf;
 use sibling_map::record::NodeRecord;
 use sibling_map::shape::SiblingMap;
-use std::test::Fail;
+
+// Eight tests, one for each combination of makes. Each is one call, and is its own test so that a failure names its makes.
 
 #[test]
-fn compact_plain_record(rt: HostRuntime) -> Result<(), Fail> {
-    let mut slots = [7u8; 448];
-    let mut bytes = [7u8; 600];
-    let mut starts = [7u32; 32];
-    let mut places = [Some(7u32); 32];
+fn compact_plain_record(rt: HostRuntime) {
     worked(
         &rt,
-        CompactMap::new(&mut slots),
-        PlainStore::new(&mut bytes, &mut starts),
-        RecordShelf::new(&mut places),
+        CompactMap::new(&mut [7; 448]),
+        PlainStore::new(&mut [7; 600], &mut [7; 32]),
+        RecordShelf::new(&mut [Some(7u32); 32]),
         5,
     )
 }
 
 #[test]
-fn compact_plain_bit(rt: HostRuntime) -> Result<(), Fail> {
-    let mut slots = [7u8; 448];
-    let mut bytes = [7u8; 600];
-    let mut starts = [7u32; 32];
-    let mut places = [255u8; 8];
+fn compact_plain_bit(rt: HostRuntime) {
     worked(
         &rt,
-        CompactMap::new(&mut slots),
-        PlainStore::new(&mut bytes, &mut starts),
-        BitShelf::new(&mut places),
+        CompactMap::new(&mut [7; 448]),
+        PlainStore::new(&mut [7; 600], &mut [7; 32]),
+        BitShelf::new(&mut [255; 8]),
         true,
     )
 }
 
 #[test]
-fn compact_grouped_record(rt: HostRuntime) -> Result<(), Fail> {
-    let mut slots = [7u8; 448];
-    let mut bytes = [7u8; 600];
-    let mut starts = [7u32; 2];
-    let mut places = [Some(7u32); 32];
+fn compact_grouped_record(rt: HostRuntime) {
     worked(
         &rt,
-        CompactMap::new(&mut slots),
-        GroupedStore::new(&mut bytes, &mut starts),
-        RecordShelf::new(&mut places),
+        CompactMap::new(&mut [7; 448]),
+        GroupedStore::new(&mut [7; 600], &mut [7; 2]),
+        RecordShelf::new(&mut [Some(7u32); 32]),
         5,
     )
 }
 
 #[test]
-fn compact_grouped_bit(rt: HostRuntime) -> Result<(), Fail> {
-    let mut slots = [7u8; 448];
-    let mut bytes = [7u8; 600];
-    let mut starts = [7u32; 2];
-    let mut places = [255u8; 8];
+fn compact_grouped_bit(rt: HostRuntime) {
     worked(
         &rt,
-        CompactMap::new(&mut slots),
-        GroupedStore::new(&mut bytes, &mut starts),
-        BitShelf::new(&mut places),
+        CompactMap::new(&mut [7; 448]),
+        GroupedStore::new(&mut [7; 600], &mut [7; 2]),
+        BitShelf::new(&mut [255; 8]),
         true,
     )
 }
 
 #[test]
-fn sibling_plain_record(rt: HostRuntime) -> Result<(), Fail> {
-    let mut records = [NodeRecord::BLANK; 32];
-    let mut bytes = [7u8; 600];
-    let mut starts = [7u32; 32];
-    let mut places = [Some(7u32); 32];
+fn sibling_plain_record(rt: HostRuntime) {
     worked(
         &rt,
-        SiblingMap::new(&mut records),
-        PlainStore::new(&mut bytes, &mut starts),
-        RecordShelf::new(&mut places),
+        SiblingMap::new(&mut [NodeRecord::BLANK; 32]),
+        PlainStore::new(&mut [7; 600], &mut [7; 32]),
+        RecordShelf::new(&mut [Some(7u32); 32]),
         5,
     )
 }
 
 #[test]
-fn sibling_plain_bit(rt: HostRuntime) -> Result<(), Fail> {
-    let mut records = [NodeRecord::BLANK; 32];
-    let mut bytes = [7u8; 600];
-    let mut starts = [7u32; 32];
-    let mut places = [255u8; 8];
+fn sibling_plain_bit(rt: HostRuntime) {
     worked(
         &rt,
-        SiblingMap::new(&mut records),
-        PlainStore::new(&mut bytes, &mut starts),
-        BitShelf::new(&mut places),
+        SiblingMap::new(&mut [NodeRecord::BLANK; 32]),
+        PlainStore::new(&mut [7; 600], &mut [7; 32]),
+        BitShelf::new(&mut [255; 8]),
         true,
     )
 }
 
 #[test]
-fn sibling_grouped_record(rt: HostRuntime) -> Result<(), Fail> {
-    let mut records = [NodeRecord::BLANK; 32];
-    let mut bytes = [7u8; 600];
-    let mut starts = [7u32; 2];
-    let mut places = [Some(7u32); 32];
+fn sibling_grouped_record(rt: HostRuntime) {
     worked(
         &rt,
-        SiblingMap::new(&mut records),
-        GroupedStore::new(&mut bytes, &mut starts),
-        RecordShelf::new(&mut places),
+        SiblingMap::new(&mut [NodeRecord::BLANK; 32]),
+        GroupedStore::new(&mut [7; 600], &mut [7; 2]),
+        RecordShelf::new(&mut [Some(7u32); 32]),
         5,
     )
 }
 
 #[test]
-fn sibling_grouped_bit(rt: HostRuntime) -> Result<(), Fail> {
-    let mut records = [NodeRecord::BLANK; 32];
-    let mut bytes = [7u8; 600];
-    let mut starts = [7u32; 2];
-    let mut places = [255u8; 8];
+fn sibling_grouped_bit(rt: HostRuntime) {
     worked(
         &rt,
-        SiblingMap::new(&mut records),
-        GroupedStore::new(&mut bytes, &mut starts),
-        BitShelf::new(&mut places),
+        SiblingMap::new(&mut [NodeRecord::BLANK; 32]),
+        GroupedStore::new(&mut [7; 600], &mut [7; 2]),
+        BitShelf::new(&mut [255; 8]),
         true,
     )
 }
 
 #[test]
-fn one_node_left(rt: HostRuntime) -> Result<(), Fail> {
+fn one_node_left(rt: HostRuntime) {
     let mut slots = [7u8; 224];
     let mut bytes = [7u8; 600];
     let mut starts = [7u32; 16];
@@ -142,7 +111,7 @@ fn one_node_left(rt: HostRuntime) -> Result<(), Fail> {
         PlainStore::new(&mut bytes, &mut starts),
         RecordShelf::new(&mut places),
         5u32,
-    )?;
+    );
     let mut records = [NodeRecord::BLANK; 16];
     let mut bits = [0u8; 4];
     last_node(
@@ -155,7 +124,7 @@ fn one_node_left(rt: HostRuntime) -> Result<(), Fail> {
 }
 
 #[test]
-fn bytes_just_enough(rt: HostRuntime) -> Result<(), Fail> {
+fn bytes_just_enough(rt: HostRuntime) {
     let mut slots = [7u8; 224];
     let mut bytes = [7u8; 12];
     let mut starts = [7u32; 16];
@@ -166,7 +135,7 @@ fn bytes_just_enough(rt: HostRuntime) -> Result<(), Fail> {
         PlainStore::new(&mut bytes, &mut starts),
         RecordShelf::new(&mut places),
         5u32,
-    )?;
+    );
     let mut grouped = [7u8; 28];
     let mut groups = [7u32; 1];
     last_byte(
@@ -179,7 +148,7 @@ fn bytes_just_enough(rt: HostRuntime) -> Result<(), Fail> {
 }
 
 #[test]
-fn too_few_places(rt: HostRuntime) -> Result<(), Fail> {
+fn too_few_places(rt: HostRuntime) {
     let mut slots = [7u8; 448];
     let mut bytes = [7u8; 600];
     let mut few = [7u32; 27];
@@ -190,7 +159,7 @@ fn too_few_places(rt: HostRuntime) -> Result<(), Fail> {
         PlainStore::new(&mut bytes, &mut few),
         RecordShelf::new(&mut places),
         5u32,
-    )?;
+    );
     let mut starts = [7u32; 28];
     let mut six = [0u8; 6];
     unfit(
@@ -203,7 +172,7 @@ fn too_few_places(rt: HostRuntime) -> Result<(), Fail> {
 }
 
 #[test]
-fn parts_in_use(rt: HostRuntime) -> Result<(), Fail> {
+fn parts_in_use(rt: HostRuntime) {
     let mut slots = [7u8; 224];
     let mut bytes = [7u8; 600];
     let mut starts = [7u32; 16];
@@ -216,7 +185,7 @@ fn parts_in_use(rt: HostRuntime) -> Result<(), Fail> {
         PlainStore::new(&mut bytes, &mut starts),
         RecordShelf::new(&mut places),
         5u32,
-    )?;
+    );
     let mut store = PlainStore::new(&mut bytes, &mut starts);
     let _ = store.append(b"x", 1);
     unfit(

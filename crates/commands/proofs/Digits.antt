@@ -1,42 +1,46 @@
--- a pass over digits
-use Rattle.std.proofs.Common.{◌≡◌, ℕ, suc, ◌+◌, ◌-◌, ◌*◌, ◌^◌, ◌<◌, ◌≤◌, Bool, true, false, ◌&&◌, leb, ◌⊎◌, List, length, get_or, drop, sym, refl, ap, ◌∙◌, inl, inr, arith}
-use native.Mathlib.Nat.{pow-succ', pow-le-pow_right}
-use Rattle.std.proofs.lemmas.List.{at_drop_more}
-use Rattle.std.proofs.lemmas.Bool.{le-leb, lt-leb, leb-true, and_parts, and_left, and_right}
-use Rattle.commands.specs.Numbers.{is_digit, all_digits, decimal_from}
+-- what is parsed of digits is the number of the definitions
+use Rattle.std.proofs.Common.{◌≡◌, ℕ, ◌≤◌, true, false, List, [], ◌∷◌, length, Bool, cond, nat_lt, ◌==◌, Some, None, Option, Ok, Err, Result, MatchResult, Bor, refl, rules, tests, arith}
+use Rattle.std.proofs.lemmas.Bool.{and_parts}
+use Rattle.std.proofs.lemmas.Str.{IsUtf8-from_ascii}
+use Rattle.std.proofs.lemmas.Str.Ascii.{IsAscii-nil, IsAscii-cons}
+use Rattle.std.proofs.lemmas.Str.Parse.{IsNumeralModel, numerals_by_fold, parse_digits}
+use Rattle.std.specs.Char.{is_ascii_digit}
+use Rattle.std.specs.Result.{result_ok}
+use Rattle.std.specs.Str.{IsAscii, IsUtf8}
+use Rattle.std.specs.Str.Parse.{ParsesUnsigned}
+use Rattle.commands.specs.Numbers.{all_digits, decimal, decimal_from, number}
 
--- a byte that is no digit, or one
-pub no_digit : (text : List ℕ) (i : ℕ) → i < length text → all_digits (drop i text) ≡ all_digits text → (get_or text i 0 < 48) ⊎ (57 < get_or text i 0) → false ≡ all_digits text
-no_digit text i h e o = sym (and_left (is_digit (get_or text i 0)) (all_digits (drop (i + 1) text)) (not_one o)) ∙ sym (at_drop_more all_digits text i 0 h) ∙ e
+own : IsNumeralModel (λ ds. all_digits ds ≡ true) decimal
+own = numerals_by_fold _ (search rules) decimal_from (search rules)
+
+ascii : (text : List ℕ) → all_digits text ≡ true → IsAscii text
+ascii [] h = IsAscii-nil
+ascii (b ∷ text) h = let p = and_parts (is_ascii_digit b) (all_digits text) h in IsAscii-cons b text (let d = p.0 in grind (arith, tests)) (ascii text p.1)
+
+pub digits_are_text : (text : List ℕ) → all_digits text ≡ true → IsUtf8 text
+digits_are_text text h = IsUtf8-from_ascii text (ascii text h)
+
+pub parsed : {E : Type 0} (text s : List ℕ) (r : Result ℕ E) → length text ≤ 10 → all_digits text ≡ true → s ≡ text → ParsesUnsigned 32 10 s r → result_ok r ≡ number text
+unfolding number
+parsed {E} text s (Ok n) h d e p = let k = parse_digits own {E = E} 32 text (Ok n) (rw e at p) d in search rules
+parsed {E} text s (Err why) h d e p = let k = parse_digits own {E = E} 32 text (Err why) (rw e at p) d in search rules
+
+-- other bytes than digits are no number
+pub no_number : (text : List ℕ) → all_digits text ≡ false → None ≡ number text
+unfolding number
+no_number text e = rw e (none (length text == 0) (nat_lt 10 (length text)))
   where
-    not_one : (get_or text i 0 < 48) ⊎ (57 < get_or text i 0) → is_digit (get_or text i 0) ≡ false
-    not_one (inl l) = and_left (leb 48 (get_or text i 0)) (leb (get_or text i 0) 57) (lt-leb 48 (get_or text i 0) l)
-    not_one (inr l) = and_right (leb 48 (get_or text i 0)) (leb (get_or text i 0) 57) (lt-leb (get_or text i 0) 57 l)
+    none : (b c : Bool) → ◌≡◌ {A = Option ℕ} None (cond b None (cond c None None))
+    none true c = refl
+    none false true = refl
+    none false false = refl
 
-pub one_digit : (text : List ℕ) (i : ℕ) → i < length text → all_digits (drop i text) ≡ all_digits text → 48 ≤ get_or text i 0 → get_or text i 0 ≤ 57
-    → all_digits (drop (i + 1) text) ≡ all_digits text
-one_digit text i h e l m =
-    let d : is_digit (get_or text i 0) ≡ true = rw (le-leb 48 (get_or text i 0) l, le-leb (get_or text i 0) 57 m) refl in
-    ap (λ (t : Bool). t && all_digits (drop (i + 1) text)) (sym d) ∙ sym (at_drop_more all_digits text i 0 h) ∙ e
+-- bytes that are text are read as that text
+module _ {E : Type 0} (Why : E → Type 0) {bytes : List ℕ} where
+  pub same_text : (r : Result (Bor (List ℕ)) E) (s : Bor (List ℕ)) → MatchResult r (λ x. (x.now ≡ bytes) × IsUtf8 bytes) (λ e. (IsUtf8 bytes → ⊥) × Why e) → Some s ≡ result_ok r → s.now ≡ bytes
+  same_text (Ok x) s m e = search rules
+  same_text (Err e) s m n = search rules
 
--- the next of some digits
-pub record Next (text : List ℕ) (i : ℕ) : Type 0 where
-  pub low : 48 ≤ get_or text i 0
-  pub high : get_or text i 0 ≤ 57
-  pub rest : all_digits (drop (i + 1) text) ≡ true
-
-pub next_of : (text : List ℕ) (i : ℕ) → i < length text → all_digits (drop i text) ≡ true → Next text i
-next_of text i h e =
-    let p = and_parts (is_digit (get_or text i 0)) (all_digits (drop (i + 1) text)) (sym (at_drop_more all_digits text i 0 h) ∙ e) in
-    let q = and_parts (leb 48 (get_or text i 0)) (leb (get_or text i 0) 57) p.0 in
-    record { low = leb-true 48 (get_or text i 0) q.0; high = leb-true (get_or text i 0) 57 q.1; rest = p.1 }
-
-pub value_more : (text : List ℕ) (i n : ℕ) → i < length text → decimal_from n (drop i text) ≡ decimal_from 0 text
-    → decimal_from (10 * n + (get_or text i 0 - 48)) (drop (i + 1) text) ≡ decimal_from 0 text
-value_more text i n h e = sym (at_drop_more (decimal_from n) text i 0 h) ∙ e
-
-pub bound_more : (i n d : ℕ) → n < 10 ^ i → d ≤ 9 → 10 * n + d < 10 ^ (i + 1)
-bound_more i n d h l = let e : i + 1 ≡ suc i = omega arith in rw e (omega (arith, pow-succ' 10 i))
-
-pub bound_ten : (i n : ℕ) → i ≤ 10 → n < 10 ^ i → n < 10000000000
-bound_ten i n h l = let m : 10 ^ i ≤ 10 ^ 10 = pow-le-pow_right (omega arith) h in omega arith
+  pub read_as_text : (r : Result (Bor (List ℕ)) E) → MatchResult r (λ x. (x.now ≡ bytes) × IsUtf8 bytes) (λ e. (IsUtf8 bytes → ⊥) × Why e) → IsUtf8 bytes → None ≡ result_ok r → ⊥
+  read_as_text (Ok x) m u e = search rules
+  read_as_text (Err e) m u n = m.0 u

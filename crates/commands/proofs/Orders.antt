@@ -1,36 +1,32 @@
 -- a line taken apart
-use Rattle.std.proofs.Common.{◌≡◌, ℕ, ◌-◌, ◌<◌, ◌≤◌, List, [], ◌∷◌, length, get_or, take, drop, Some, None, Option, sym, refl, ap, ◌∙◌, arith}
+use Rattle.std.proofs.Common.{◌≡◌, ℕ, ◌-◌, ◌<◌, ◌≤◌, Bool, true, false, cond, ◌==◌, nat_eq, List, [], ◌∷◌, length, get_or, take, drop, Some, None, Option, sym, refl, ap, inl, inr, arith}
 use Rattle.std.proofs.lemmas.List.{take_all}
-use Rattle.std.proofs.lemmas.Bool.{eq-eqb, ne_eqb}
+use Rattle.std.proofs.lemmas.Bool.{cases_eq, eq-eqb, ne_eqb, true≢false}
+use Rattle.std.specs.Cmp.Lexicographic.{pointwise}
 use Rattle.commands.specs.Lines.{place_of}
 use Rattle.commands.specs.Numbers.{number}
-use Rattle.commands.specs.Commands.{Order, double, spaced, after_space, priced_with, priced_tag, order_by, order_in}
+use Rattle.commands.specs.Commands.{Order, after_space, spaced, priced_with, priced_tag, order_by, order_in}
 
--- the rest of a list as the code has it
-rest_is : (b : ℕ) (text : List ℕ) → take (length (b ∷ text) - 1) text ≡ text
-rest_is b text = take_all (length (b ∷ text) - 1) text (omega arith)
-
-pub after_none : (text : List ℕ) → length text < 1 → None ≡ after_space text
+-- what follows a space, as it is stripped
+not_a_space : (b : ℕ) (text : List ℕ) → (b ≡ 32 → ⊥) → after_space (b ∷ text) ≡ None
 unfolding after_space
-after_none [] h = refl
-after_none (b ∷ text) h = absurd (omega arith)
+not_a_space b text n = rw (ne_eqb b 32 n, after_space) refl
 
-pub after_one : (text : List ℕ) → 1 ≤ length text → get_or text 0 0 ≡ 32 → Some (take (length text - 1) (drop 1 text)) ≡ after_space text
+pub no_space : (text : List ℕ) → pointwise nat_eq (take 1 text) (32 ∷ []) ≡ false → None ≡ after_space text
 unfolding after_space
-after_one [] h e = absurd (omega arith)
-after_one (b ∷ text) h e = rw (eq-eqb b 32 e, after_space) (ap Some (rest_is b text))
+no_space [] e = refl
+no_space (b ∷ text) e = elim (cases_eq b 32) [
+  | inl z ↦ absurd (true≢false (rw (eq-eqb b 32 z) at e))
+  | inr n ↦ sym (not_a_space b text n)
+]
 
-pub after_other : (text : List ℕ) → 1 ≤ length text → (get_or text 0 0 ≡ 32 → ⊥) → None ≡ after_space text
+pub one_space : (text tag : List ℕ) → pointwise nat_eq (take 1 text) (32 ∷ []) ≡ true → tag ≡ drop 1 text → Some tag ≡ after_space text
 unfolding after_space
-after_other [] h n = absurd (omega arith)
-after_other (b ∷ text) h n = rw (ne_eqb b 32 n, after_space) refl
-
--- reading on behind the space
-pub not_spaced : {A : Type 0} (reads : List ℕ → Option A) (matter : List ℕ) → None ≡ after_space matter → None ≡ spaced reads matter
-not_spaced reads matter e = rw (← e, spaced) refl
-
-pub is_spaced : {A : Type 0} (reads : List ℕ → Option A) (text matter : List ℕ) → Some text ≡ after_space matter → reads text ≡ spaced reads matter
-is_spaced reads text matter e = rw (← e, spaced) refl
+one_space [] tag e t = absurd (true≢false (sym e))
+one_space (b ∷ text) tag e t = elim (cases_eq b 32) [
+  | inl z ↦ rw (eq-eqb b 32 z, after_space) (ap Some t)
+  | inr n ↦ absurd (true≢false (sym (rw (ne_eqb b 32 n) at e)))
+]
 
 -- a priced tag, by its number and by what follows it
 pub priced_is : (text digits rest : List ℕ) (p : ℕ) → p ≡ place_of 32 text → digits ≡ take p text → rest ≡ drop p text
@@ -47,30 +43,55 @@ no_tag amount n o e f = rw (← e, ← f) refl
 pub both : (amount : ℕ) (tag : List ℕ) (n : Option ℕ) (o : Option (List ℕ)) → Some amount ≡ n → Some tag ≡ o → Some (record { amount = amount; tag = tag }) ≡ priced_with n o
 both amount tag n o e f = rw (← e, ← f) refl
 
--- an order at a letter that is known
-pub at_letter : (o : Option Order) (letter k : ℕ) (matter : List ℕ) → letter ≡ k → o ≡ order_by k matter → o ≡ order_by letter matter
-at_letter o letter k matter e q = q ∙ ap (λ (l : ℕ). order_by l matter) (sym e)
-
-pub alone : (matter : List ℕ) → length matter ≡ 0 → Some double ≡ order_by 68 matter
-unfolding order_by
-alone matter e = rw (eq-eqb (length matter) 0 e) refl
-
-pub not_alone : (matter : List ℕ) → 0 < length matter → None ≡ order_by 68 matter
-unfolding order_by
-not_alone matter h = rw (ne_eqb (length matter) 0 (omega arith)) refl
-
-pub no_letter : (letter : ℕ) (matter : List ℕ) → (letter ≡ 69 → ⊥) → (letter ≡ 67 → ⊥) → (letter ≡ 70 → ⊥) → (letter ≡ 83 → ⊥) → (letter ≡ 80 → ⊥) → (letter ≡ 68 → ⊥)
-    → None ≡ order_by letter matter
-unfolding order_by
-no_letter letter matter e c f s p d = rw (ne_eqb letter 69 e, ne_eqb letter 67 c, ne_eqb letter 70 f, ne_eqb letter 83 s, ne_eqb letter 80 p, ne_eqb letter 68 d, order_by) refl
-
--- a whole line
-pub line_none : (line : List ℕ) → length line < 1 → None ≡ order_in line
+-- a line that begins with a letter that is known and a space
+pub spaced_line : (line : List ℕ) (k : ℕ) → 2 ≤ length line → get_or line 0 0 ≡ k → get_or line 1 0 ≡ 32 → order_by k (32 ∷ take (length line - 2) (drop 2 line)) ≡ order_in line
 unfolding order_in
-line_none [] h = refl
-line_none (b ∷ line) h = absurd (omega arith)
+spaced_line [] k h e f = absurd (omega arith)
+spaced_line (b ∷ []) k h e f = absurd (omega arith)
+spaced_line (b ∷ s ∷ rest) k h e f =
+    let a : take (length (b ∷ s ∷ rest) - 2) rest ≡ rest = take_all (length (b ∷ s ∷ rest) - 2) rest (omega arith) in rw (a, ← e, ← f) refl
 
-pub line_some : (line : List ℕ) (o : Option Order) → 1 ≤ length line → o ≡ order_by (get_or line 0 0) (take (length line - 1) (drop 1 line)) → o ≡ order_in line
+-- a letter alone
+pub letter_alone : (line : List ℕ) (k : ℕ) → 1 ≤ length line → length line < 2 → get_or line 0 0 ≡ k → order_by k [] ≡ order_in line
 unfolding order_in
-line_some [] o h e = absurd (omega arith)
-line_some (b ∷ line) o h e = e ∙ ap (λ (m : List ℕ). order_by b m) (rest_is b line)
+letter_alone [] k h l e = absurd (omega arith)
+letter_alone (b ∷ []) k h l e = rw (← e) refl
+letter_alone (b ∷ s ∷ rest) k h l e = absurd (omega arith)
+
+-- lines that ask for nothing: an empty one, a letter alone that is not D, a letter with no space behind it, another letter
+pub empty_line : (line : List ℕ) → length line < 1 → None ≡ order_in line
+unfolding order_in
+empty_line [] h = refl
+empty_line (b ∷ line) h = absurd (omega arith)
+
+none_of : (a b c d e f : Bool) → ◌≡◌ {A = Option Order} None (cond a None (cond b None (cond c None (cond d None (cond e None (cond f None None))))))
+none_of true b c d e f = refl
+none_of false true c d e f = refl
+none_of false false true d e f = refl
+none_of false false false true e f = refl
+none_of false false false false true f = refl
+none_of false false false false false true = refl
+none_of false false false false false false = refl
+
+pub other_alone : (line : List ℕ) → 1 ≤ length line → length line < 2 → (get_or line 0 0 ≡ 68 → ⊥) → None ≡ order_in line
+unfolding order_in order_by after_space
+other_alone [] h l n = absurd (omega arith)
+other_alone (b ∷ []) h l n = rw (ne_eqb b 68 n) (none_of (b == 69) (b == 67) (b == 70) (b == 83) (b == 80) false)
+other_alone (b ∷ s ∷ rest) h l n = absurd (omega arith)
+
+pub unspaced_line : (line : List ℕ) → 2 ≤ length line → (get_or line 1 0 ≡ 32 → ⊥) → None ≡ order_in line
+unfolding order_in order_by
+unspaced_line [] h n = absurd (omega arith)
+unspaced_line (b ∷ []) h n = absurd (omega arith)
+unspaced_line (b ∷ s ∷ rest) h n =
+    let z : after_space (s ∷ rest) ≡ None = not_a_space s rest n in
+    let y : (length (s ∷ rest) == 0) ≡ false = ne_eqb (length (s ∷ rest)) 0 (omega arith) in
+    rw (y, z, spaced) (none_of (b == 69) (b == 67) (b == 70) (b == 83) (b == 80) (b == 68))
+
+pub other_line : (line : List ℕ) → 2 ≤ length line → (get_or line 0 0 ≡ 69 → ⊥) → (get_or line 0 0 ≡ 67 → ⊥) → (get_or line 0 0 ≡ 70 → ⊥) → (get_or line 0 0 ≡ 83 → ⊥) → (get_or line 0 0 ≡ 80 → ⊥) → None ≡ order_in line
+unfolding order_in order_by
+other_line [] h e c f s p = absurd (omega arith)
+other_line (b ∷ []) h e c f s p = absurd (omega arith)
+other_line (b ∷ t ∷ rest) h e c f s p =
+    let y : (length (t ∷ rest) == 0) ≡ false = ne_eqb (length (t ∷ rest)) 0 (omega arith) in
+    rw (y, ne_eqb b 69 e, ne_eqb b 67 c, ne_eqb b 70 f, ne_eqb b 83 s, ne_eqb b 80 p) (none_of false false false false false (b == 68))

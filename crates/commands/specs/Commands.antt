@@ -1,9 +1,9 @@
 -- the commands of a bench list, a line each
 use Rattle.std.specs.Prelude.{ℕ, cond, List, [], ◌∷◌, length, take, drop, Some, None, Option, ◌==◌, nat_lt}
+use denote.Ref.{Bor}
 use Rattle.std.specs.Option.{option_map}
 use Rattle.commands.specs.declared.command.Command.{Command}
 use Rattle.commands.specs.declared.command.Command.TheVariants.{Enter, Change, Find, Strike, Spell, Double}
-use Rattle.commands.specs.declared.reading.PricedTag.{PricedTag}
 use Rattle.commands.specs.Lines.{place_of}
 use Rattle.commands.specs.Numbers.{number}
 
@@ -22,8 +22,8 @@ pub data Order : Type 0 where
   double : Order
 
 -- the code's own types, over a line's bytes, as these
-abbrev pub priced_of : PricedTag → Priced
-priced_of p = record { amount = p.amount; tag = p.tag.now }
+abbrev pub priced_of : ℕ × Bor (List ℕ) → Priced
+priced_of p = record { amount = p.0; tag = p.1.now }
 
 abbrev pub order_of : Command → Order
 order_of (Enter amount tag) = enter (record { amount = amount; tag = tag.now })

@@ -1,5 +1,8 @@
 -- the lines of a text
-use Rattle.std.specs.Prelude.{ℕ, suc, cond, List, [], ◌∷◌, ◌==◌}
+use Rattle.std.specs.Prelude.{◌≡◌, ℕ, suc, false, cond, List, [], ◌∷◌, ◌==◌, Option, is_some}
+use denote.Ref.{Bor}
+use Rattle.std.specs.Iterator.{YieldsFirstRef}
+use Rattle.commands.specs.declared.lines.Lines.{Lines}
 
 -- where a byte first stands in a text; the length where it stands nowhere
 unfoldable pub place_of : ℕ → List ℕ → ℕ
@@ -15,3 +18,12 @@ in_front b (line ∷ rest) = (b ∷ line) ∷ rest
 unfoldable pub lines : List ℕ → List (List ℕ)
 lines [] = []
 lines (b ∷ text) = cond (b == 10) ([] ∷ lines text) (in_front b (lines text))
+
+-- the lines that are left of a text
+abbrev pub left : Lines → List (List ℕ)
+left l = lines l.text.now
+
+-- a call gives the first of the lines that are left and leaves the others; once there is none, it leaves all as it is
+pub record GivesLine (before : Lines) (line : Option (Bor (List ℕ))) (after : Lines) : Type 0 where
+  pub first : YieldsFirstRef left before line after
+  pub ended : is_some line ≡ false → after ≡ before

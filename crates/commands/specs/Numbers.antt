@@ -1,13 +1,11 @@
 -- numbers in a line
-use Rattle.std.specs.Prelude.{ℕ, ◌+◌, ◌-◌, ◌*◌, Bool, true, cond, ◌&&◌, List, [], ◌∷◌, length, Some, None, Option, ◌==◌, nat_le, nat_lt}
+use Rattle.std.specs.Prelude.{ℕ, ◌+◌, ◌-◌, ◌*◌, Bool, cond, List, [], ◌∷◌, length, Some, None, Option, ◌==◌, nat_lt}
+use Rattle.std.specs.Char.{is_ascii_digit}
+use Rattle.std.specs.List.{list_all}
 
 -- the digits are the bytes 48 to 57
-abbrev pub is_digit : ℕ → Bool
-is_digit b = nat_le 48 b && nat_le b 57
-
 abbrev pub all_digits : List ℕ → Bool
-all_digits [] = true
-all_digits (b ∷ text) = is_digit b && all_digits text
+all_digits = list_all is_ascii_digit
 
 -- the number that digits write behind those of n
 abbrev pub decimal_from : ℕ → List ℕ → ℕ

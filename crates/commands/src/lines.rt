@@ -1,17 +1,13 @@
-ghost use Rattle.std.specs.Prelude.{◌≡◌, ◌+◌, ◌<◌, ◌≤◌, false, [], ◌∷◌, length, is_some, MatchOption};
+ghost use Rattle.std.specs.Prelude.{◌≡◌, ◌≤◌, [], ◌∷◌, length, MatchOption};
 ghost use Rattle.commands.specs.Lines.{lines, place_of};
 
 // Where a byte first stands; the length where it stands nowhere.
+// No `Option`: both callers cut the text there, and after its last byte where there is no such byte.
 pub(crate) fn place_of(byte: u8, text: &[u8]) -> usize
     ensures place { result ≡ place_of byte text.now }
     ensures within { result ≤ length text.now }
 {
-    for (i, b) in text.iter().enumerate() {
-        if *b == byte {
-            return i;
-        }
-    }
-    text.len()
+    text.iter().position(|&b| b == byte).unwrap_or(text.len())
 }
 
 // The first line of a text, and what follows its end.
@@ -21,14 +17,13 @@ fn first_line(text: &[u8]) -> Option<(&[u8], &[u8])>
     if text.is_empty() {
         return None;
     }
-    let end = place_of(10, text);
-    if end == text.len() {
-        return Some((text, &[]));
-    }
-    Some((&text[0..end], &text[end + 1..]))
+    let (line, rest) = text.split_at(place_of(b'\n', text));
+    Some((line, rest.strip_prefix(b"\n").unwrap_or(rest)))
 }
 
 // The lines of a text, one by one. A line ends with byte 10, which the last may lack.
+// Not the slice's own `split`: a line end that is the text's last byte starts no further line, and an empty text has no line;
+// `split_inclusive` leaves each line its end.
 #[derive(Drop)]
 pub struct Lines<'a> {
     text: &'a [u8],
@@ -40,12 +35,20 @@ impl<'a> Lines<'a> {
     {
         Lines { text }
     }
+}
+
+impl<'a> Iterator for Lines<'a> {
+    ghost use Rattle.std.specs.Iterator.{item_count};
+    ghost use Rattle.commands.specs.Lines.{GivesLine, left};
+
+    type Item = &'a [u8];
+
+    ghost next_gives = { GivesLine };
+
+    ghost remaining = { item_count left };
 
     // The next line, without its end. Once there is none, there is none again.
-    pub fn next_line(&mut self) -> Option<&'a [u8]>
-        ensures line { MatchOption result (lines self.old.text.now ≡ []) (λ line. lines self.old.text.now ≡ line.now ∷ lines self.new.text.now) }
-        ensures ended { is_some result ≡ false → self.new ≡ self.old }
-    {
+    fn next(&mut self) -> Option<&'a [u8]> {
         let (line, rest) = first_line(self.text)?;
         self.text = rest;
         Some(line)

@@ -5,7 +5,7 @@ use Rattle.rules.specs.declared.step.Step.TheVariants.{By32}
 use Rattle.compact_map.specs.Hash.{unhash, home_of}
 use Rattle.compact_map.specs.Slots.{quotient_in, displacement_in}
 use Rattle.compact_map.specs.Memory.{set_start}
-use Rattle.compact_map.specs.Table.{slot_at, place_at, homeward, Vacant, key_in, Filled, Placed, Stored}
+use Rattle.compact_map.specs.Table.{slot_at, place_at, Taken, homeward, Vacant, key_in, Filled, Placed, Stored}
 use Rattle.compact_map.proofs.Numbers.{number_same}
 use Rattle.compact_map.proofs.HeldKeys.{home_lt}
 use Rattle.compact_map.proofs.Tables.{TableFacts}
@@ -29,12 +29,10 @@ turns l large = elim (cases_eq (l % 2) 0) [
     start : (k x : ℕ) → k % 2 ≡ x → set_start k large ≡ x * (6 * large)
     start k x e = ap (λ (y : ℕ). y * (6 * large)) e
 
-pub start_le : (l large : ℕ) → set_start l large ≤ 6 * large
-start_le l large = elim (turns l large) [ inl z ↦ omega (arith, z.0) | inr z ↦ omega (arith, z.0) ]
-
 -- what setting node v anew needs of the bytes, and what it leaves of them
 pub record Turn (l large : ℕ) (old bs : List ℕ) (v : ℕ) : Type 0 where
   pub inside : place_at bs (12 * large) v < 2 ^ l
+  pub taken : Taken (slot_at bs (set_start l large) (place_at bs (12 * large) v))
   pub near : displacement_in (slot_at bs (set_start l large) (place_at bs (12 * large) v)) < 2 ^ l
   pub vacant : (key : ℕ) → Vacant (2 ^ (l + 1)) (slot_at bs (set_start (l + 1) large)) (home_of By32 (l + 1) key)
   pub next : (key : ℕ) (new : List ℕ) → key ≡ key_in By32 bs l large v → Placed By32 (l + 1) large v key bs new
@@ -71,6 +69,9 @@ module _ (l large : ℕ) (wider : 2 * 2 ^ l ≤ large) where
       inside_old : place_at old (12 * large) (suc done) < 2 ^ l
       inside_old = facts.inside (suc done) (omega arith) (omega arith)
 
+      taken_old : Taken (slot_at old (set_start l large) (place_at old (12 * large) (suc done)))
+      taken_old = facts.taken (suc done) (omega arith) (omega arith)
+
       held : slot_at bs (set_start l large) (place_at bs (12 * large) (suc done)) ≡ slot_at old (set_start l large) (place_at old (12 * large) (suc done))
       held = ap (slot_at bs (set_start l large)) place_kept ∙ slot_kept (place_at old (12 * large) (suc done)) inside_old
 
@@ -86,8 +87,8 @@ module _ (l large : ℕ) (wider : 2 * 2 ^ l ≤ large) where
       turn v e = subst (Turn l large old bs) (sym e)
           (record {
             inside = subst (λ (x : ℕ). x < 2 ^ l) (sym place_kept) inside_old;
-            near = subst (λ (w : ℕ). displacement_in w < 2 ^ l) (sym held)
-                (facts.full.short (place_at old (12 * large) (suc done)) inside_old (facts.taken (suc done) (omega arith) (omega arith)));
+            taken = subst Taken (sym held) taken_old;
+            near = subst (λ (w : ℕ). displacement_in w < 2 ^ l) (sym held) (facts.full.short (place_at old (12 * large) (suc done)) inside_old taken_old);
             vacant = λ key. laid_vacant (l + 1) (slot_at bs (set_start (l + 1) large)) (place_at bs (12 * large)) (key_in By32 old l large) done small (omega (arith, pow_more l))
                 (keys_below (key_in By32 old l large) n done (omega arith) was.keys) laid (home_of By32 (l + 1) key) (home_lt (l + 1) key);
             next = λ key new f p. filled_more (l + 1) large other_fits (key_in By32 old l large) done key old bs new laid.slots (f ∙ key_kept) way p;

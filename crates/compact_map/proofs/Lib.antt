@@ -1,4 +1,5 @@
 pub mod Numbers
+pub mod Parts
 pub mod Inverse
 pub mod Fields
 pub mod Rounds

@@ -1,7 +1,6 @@
 -- what the type of a compact map says
-use Rattle.std.proofs.Common.{◌≡◌, ℕ, suc, ◌+◌, ◌*◌, ◌/◌, ◌^◌, ◌<◌, ◌≤◌, List, length, Some, None, Ok, Err, Option, sym, refl, ap, ◌∙◌, subst, inl, inr, arith, pow_pos, pow_mono, pow-add}
+use Rattle.std.proofs.Common.{◌≡◌, ℕ, suc, ◌+◌, ◌*◌, ◌/◌, ◌^◌, ◌<◌, ◌≤◌, List, length, Some, None, Ok, Option, sym, refl, ap, ◌∙◌, subst, inl, inr, arith, pow_pos, pow_mono, pow-add}
 use Rattle.std.proofs.lemmas.Bool.{cases_lt, cases_eq}
-use Rattle.tags.specs.declared.refusal.MapFault.{MapFault}
 use Rattle.rules.specs.declared.step.Step.TheVariants.{By32}
 use Rattle.rules.specs.Tree.{Edge, node_count, child}
 use Rattle.parts.specs.Maps.{Map, MapFacts, count_of, asked, with_edge}
@@ -29,9 +28,7 @@ count_is c = omega (arith, edges_length (keys_of c) c.later)
 pub pair_in_lem : (m : Map) (u c : ℕ) → Ok tt ≡ asked {A = Unit {0}} By32 m u c (Ok tt) → (u < count_of m) × (c < 8192)
 pair_in_lem m u c e = asked_in By32 m u c (sym e)
 
-pub pair_out : (m : Map) (u c : ℕ) (fault : MapFault) → Err fault ≡ asked {A = Unit {0}} By32 m u c (Ok tt) → asked {A = Unit {0}} By32 m u c (Ok tt) ≡ Err fault
-pair_out m u c fault e = sym e
-
+-- the keys in the lent bytes are each node's own, and lead to lower nodes
 keys_of_lem : (c : CompactMap) → Keys By32 (keys_of c) c.later
 keys_of_lem c = record { apart = λ u v a b x y e. c.apart u v (a, b, x, y, e); down = λ v a b. c.parents v (a, b) }
 

@@ -1,10 +1,12 @@
 -- a search from a home on
-use Rattle.std.proofs.Common.{◌≡◌, ℕ, ◌<◌, ◌⊎◌, sym, ap, ◌∙◌, subst, inl, inr}
+use Rattle.std.proofs.Common.{◌≡◌, ℕ, ◌+◌, ◌<◌, ◌⊎◌, Some, sym, ap, ◌∙◌, subst, inl, inr, mod-lt, arith}
 use Rattle.std.proofs.lemmas.Bool.{cases_order}
 use Rattle.compact_map.specs.Slots.{quotient_in, displacement_in}
 use Rattle.compact_map.specs.Layout.{onward}
-use Rattle.compact_map.specs.Table.{Taken, Holds, Full}
-use Rattle.compact_map.proofs.Rounds.{onward_homeward}
+use Rattle.compact_map.specs.Reads.{Read}
+use Rattle.compact_map.specs.Table.{Taken, Holds, Full, Finds, homeward}
+use Rattle.compact_map.specs.declared.slot.Slot.{Slot}
+use Rattle.compact_map.proofs.Rounds.{onward_homeward, homeward_onward}
 
 -- none of the d slots that a search has passed has the home and the quotient
 abbrev pub Passed : ℕ → (ℕ → ℕ) → ℕ → ℕ → ℕ → Type 0
@@ -30,3 +32,19 @@ none_left m S home q d full passed empty i h = pick (cases_order (displacement_i
     pick (inr (inl l)) = none_passed m S home q d i passed h s l
     pick (inl l) = empty (subst (λ (x : ℕ). Taken (S x)) (sym (held_at m S home q i h s) ∙ ap (onward m home) l) h.taken)
     pick (inr (inr l)) = empty (subst (λ (x : ℕ). Taken (S (onward m x d))) h.home_is (full.way i h.inside h.taken d l))
+
+-- a slot that has the quotient, as far on from the home as it says, is the one
+pub found : (m : ℕ) (S : ℕ → ℕ) (home q d : ℕ) (slot : Slot) → home < m → d < m → Read (S (onward m home d)) slot → slot.quotient ≡ q → slot.displacement ≡ d
+    → Finds m S home q (Some slot.number)
+found m S home q d slot h l read eq ed = (
+  onward m home d,
+  (
+    record {
+      inside = mod-lt (home + d) (omega arith);
+      taken = read.taken;
+      home_is = ap (homeward m (onward m home d)) (sym read.displacement ∙ ed) ∙ homeward_onward m home d h l;
+      quotient_is = sym read.quotient ∙ eq;
+    },
+    read.number,
+  ),
+)

@@ -1,11 +1,12 @@
 -- the first empty slot, as a number and by what it is
-use Rattle.std.proofs.Common.{◌≡◌, ℕ, zero, suc, ◌+◌, ◌^◌, ◌<◌, ◌≤◌, cond, ltb, sym, refl, ap, subst, ap₂, inl, inr, mod-lt, arith, pow_pos}
+use Rattle.std.proofs.Common.{◌≡◌, ℕ, zero, suc, ◌+◌, ◌^◌, ◌<◌, ◌≤◌, cond, ltb, Some, None, Option, rules, sym, refl, ap, subst, ap₂, inl, inr, mod-lt, arith, pow_pos}
 use Rattle.std.proofs.lemmas.Bool.{cases_lt, cases_order, lt-ltb, le-ltb, cond-true, cond-false}
+use Rattle.std.specs.Option.{MatchOption, IsSome}
 use Rattle.rules.specs.declared.step.Step.TheVariants.{By32}
 use Rattle.compact_map.specs.Hash.{home_of, quotient_of}
 use Rattle.compact_map.specs.Slots.{packed}
 use Rattle.compact_map.specs.Layout.{onward, seek, displacement_for, slot_for, word_for}
-use Rattle.compact_map.specs.Table.{Taken, First}
+use Rattle.compact_map.specs.Table.{Taken, Vacant, First, FindsEmpty}
 
 seek_here : (m : ℕ) (S : ℕ → ℕ) (home left d : ℕ) → S (onward m home d) < 2 ^ 47 → seek m S home (suc left) d ≡ d
 unfolding seek
@@ -31,6 +32,17 @@ seek_first_from m S home (suc left) d e way some = elim (cases_lt (S (onward m h
 -- what is sought is the first empty slot, where one is empty
 pub seek_first : (m : ℕ) (S : ℕ → ℕ) (home : ℕ) → (((j : ℕ) → j < m → Taken (S (onward m home j))) → ⊥) → First m S home (seek m S home m 0)
 seek_first m S home some = seek_first_from m S home m 0 (omega arith) (λ j h. absurd (omega arith)) some
+
+-- what a search from home on finds
+pub first_found : (m : ℕ) (S : ℕ → ℕ) (home : ℕ) (r : Option ℕ)
+    → MatchOption r ((k : ℕ) → 0 ≤ k → k < m → Taken (S (onward m home k))) (λ d. (0 ≤ d) × (d < m) × (S (onward m home d) < 2 ^ 47) × ((k : ℕ) → 0 ≤ k → k < d → Taken (S (onward m home k))))
+    → FindsEmpty m S home r
+first_found m S home None full = λ j h. full j (omega arith) h
+first_found m S home (Some d) (z, near, empty, way) = record { near = near; way = λ j h. way j (omega arith) h; empty = λ t. omega arith }
+
+pub some_found : (m : ℕ) (S : ℕ → ℕ) (home : ℕ) (r : Option ℕ) → FindsEmpty m S home r → Vacant m S home → IsSome r
+some_found m S home None full some = absurd (some full)
+some_found m S home (Some d) f some = search rules
 
 -- there is one first
 pub first_one : (m : ℕ) (S : ℕ → ℕ) (home d e : ℕ) → First m S home d → First m S home e → d ≡ e

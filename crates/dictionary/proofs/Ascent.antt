@@ -1,5 +1,5 @@
 -- the stages of the climb, over map and store
-use Rattle.std.proofs.Common.{◌≡◌, ℕ, suc, ◌+◌, ◌-◌, ◌/◌, ◌%◌, ◌<◌, ◌≤◌, true, false, not, eqb, List, [], ◌∷◌, ◌++◌, length, take, drop, set, Ok, Err, sym, refl, ap, ◌∙◌, subst, inl, inr, arith, length-drop}
+use Rattle.std.proofs.Common.{◌≡◌, ℕ, ◌+◌, ◌-◌, ◌/◌, ◌%◌, ◌<◌, ◌≤◌, true, false, List, [], ◌∷◌, ◌++◌, length, take, drop, set, Ok, Err, sym, refl, ap, ◌∙◌, subst, inl, inr, arith, length-drop}
 use lib.Seq.{drop-length}
 use Rattle.std.proofs.lemmas.Bool.{lt-ltb, le-ltb, cases_lt, cases_eq, eq-eqb, ne_eqb, both_ways}
 use Rattle.tags.specs.declared.refusal.MapFault.{MapFault}
@@ -18,7 +18,7 @@ use Rattle.dictionary.specs.Shows.{tree_in}
 use Rattle.dictionary.specs.Spelling.{of_row, Ticketed}
 use Rattle.dictionary.proofs.Answered.{ok_is, err_not, ok_not}
 use Rattle.dictionary.proofs.Standing.{struck_rows, held_rows}
-use Rattle.dictionary.proofs.Laying.{drop_set_here}
+use Rattle.std.proofs.lemmas.List.{drop-set}
 
 -- the parent and the symbol of a node
 pub record UpIs (m : Map) (v p c : ℕ) : Type 0 where
@@ -56,16 +56,11 @@ byte_small m v p c b f u e = omega (arith, u.symbol, f.symbols v u.low u.high)
 
 -- whether a number is a row's node
 module _ (m : Map) (l : Store) (v : ℕ) where
-  pub of_none : length l.labels ≤ v → false ≡ of_row m l v
+  of_none : length l.labels ≤ v → false ≡ of_row m l v
   of_none h = rw (le-ltb v (length l.labels) h) refl
 
-  pub of_top : v < length l.labels → v ≡ 0 → true ≡ of_row m l v
+  of_top : v < length l.labels → v ≡ 0 → true ≡ of_row m l v
   of_top h z = rw (lt-ltb v (length l.labels) h, eq-eqb v 0 z) refl
-
-  pub of_edge : v < length l.labels → (p c : ℕ) → UpIs m v p c → (d : ℕ) → d ≡ step_symbol By32 → not (eqb c d) ≡ of_row m l v
-  of_edge h p c u d e =
-      let n : v ≡ 0 → ⊥ = λ z. omega (arith, u.low) in
-      rw (lt-ltb v (length l.labels) h, ne_eqb v 0 n, ← u.symbol, e) refl
 
   pub of_plain : v < length l.labels → (0 < v → (edge_of m.edges v).symbol ≡ step_symbol By32 → ⊥) → of_row m l v ≡ true
   of_plain h n = elim (cases_eq v 0) [
@@ -169,6 +164,6 @@ module _ (m : Map) (l : Store) (ticket : ℕ) (t : Ticketed m l ticket) where
 
           pub row_stage : Climbs p k (drop (r - 1) (set w' (r - 1) b))
           row_stage =
-              let z : suc (r - 1) ≡ r = omega (arith, row_some) in
-              let e : drop (r - 1) (set w' (r - 1) b) ≡ b ∷ drop r w' = drop_set_here w' (r - 1) b (omega (arith, row_some)) ∙ ap (λ (q : ℕ). b ∷ drop q w') z in
+              let z : (r - 1) + 1 ≡ r = omega (arith, row_some) in
+              let e : drop (r - 1) (set w' (r - 1) b) ≡ b ∷ drop r w' = drop-set w' (r - 1) b (omega (arith, row_some)) ∙ ap (λ (q : ℕ). b ∷ drop q w') z in
               rw e next_spelt

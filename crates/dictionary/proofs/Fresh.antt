@@ -1,5 +1,5 @@
 -- a shelf blanked place by place, and the book of a dictionary just opened
-use Rattle.std.proofs.Common.{◌≡◌, ℕ, ◌+◌, ◌<◌, ◌≤◌, Bool, true, false, cond, ◌&&◌, eqb, leb, List, [], ◌∷◌, length, get_or, set, None, Ok, Err, Option, Result, sym, refl, ap, ◌∙◌, inl, inr, arith, length-set, get_or-set_other, get_or-set_same}
+use Rattle.std.proofs.Common.{◌≡◌, ℕ, ◌+◌, ◌<◌, ◌≤◌, Bool, true, false, cond, ◌&&◌, eqb, leb, List, [], ◌∷◌, length, get_or, set, None, Ok, Err, Option, Result, sym, refl, ap, ◌∙◌, inl, inr, arith, length-set, get_or-set_other, get_or-set_same, ◌⊎◌}
 use lib.ListN.{length-replicate}
 use Rattle.std.proofs.lemmas.List.{same_lists, get_or_default, get_or-replicate, get_or_past}
 use Rattle.std.proofs.lemmas.Bool.{cases_eq, cases_lt, eqb-true, leb-true, and_parts}
@@ -12,7 +12,7 @@ use Rattle.rules.proofs.Finds.{finds_count_moves}
 use Rattle.parts.specs.Maps.{Map, count_of, last_room}
 use Rattle.parts.specs.Stores.{Store}
 use Rattle.parts.specs.Shelves.{blanks}
-use Rattle.dictionary.specs.Shows.{tree_in, value_with, Shows, extent_of, fits, open_answer, fresh_book}
+use Rattle.dictionary.specs.Shows.{tree_in, value_with, Shows, fits, open_answer, fresh_book}
 
 module _ {V : Type 0} where
   -- one place more is blank
@@ -41,19 +41,25 @@ no_value : {V : Type 0} (n : ℕ) → value_with {V = V} [] n ≡ None
 unfolding value_with
 no_value n = refl
 
-pub fit_of : {V : Type 0} (m : Map) (l : Store) (s : List (Option V)) → Ok tt ≡ open_answer m l s → fits m l s ≡ true
+fit_of : {V : Type 0} (m : Map) (l : Store) (s : List (Option V)) → Ok tt ≡ open_answer m l s → fits m l s ≡ true
 fit_of m l s e = go (fits m l s) e
   where
     go : (b : Bool) → ◌≡◌ {A = Result (Unit {0}) Refusal} (Ok tt) (cond b (Ok tt) (Err UnfitParts)) → b ≡ true
     go true q = refl
     go false q = absurd (let z : ◌≡◌ {A = ℕ} 0 1 = cc in omega arith)
 
-pub same_extent : {V : Type 0} (l : Store) (s s' : List (Option V)) → s' ≡ blanks (length s) → extent_of l s' ≡ extent_of l s
-same_extent {V} l s s' e = ap (λ (n : ℕ). record { labels = l.places; values = n }) (ap length e ∙ length-replicate {A = Option V} (length s) None)
+-- parts fit or do not
+pub open_cases : {V : Type 0} (m : Map) (l : Store) (s : List (Option V)) → (open_answer m l s ≡ Ok tt) ⊎ (open_answer m l s ≡ Err UnfitParts)
+open_cases m l s = go (fits m l s)
+  where
+    go : (b : Bool) → (◌≡◌ {A = Result (Unit {0}) Refusal} (cond b (Ok tt) (Err UnfitParts)) (Ok tt)) ⊎ (◌≡◌ {A = Result (Unit {0}) Refusal} (cond b (Ok tt) (Err UnfitParts)) (Err UnfitParts))
+    go true = inl refl
+    go false = inr refl
 
 -- fit parts with a blank shelf show a book with no rows
-pub fresh_shows : {V : Type 0} (m : Map) (l : Store) (s s' : List (Option V)) → fits m l s ≡ true → s' ≡ blanks (length s) → Shows m l s' (fresh_book m l)
-fresh_shows {V} m l s s' e q =
+pub fresh_shows : {V : Type 0} (m : Map) (l : Store) (s s' : List (Option V)) → open_answer m l s ≡ Ok tt → s' ≡ blanks (length s) → Shows m l s' (fresh_book m l)
+fresh_shows {V} m l s s' opened q =
+    let e = fit_of m l s (sym opened) in
     let a = and_parts (eqb (count_of m) 1) (eqb (length l.labels) 0 && (leb (last_room m) l.places && leb (last_room m) (length s))) e in
     let b = and_parts (eqb (length l.labels) 0) (leb (last_room m) l.places && leb (last_room m) (length s)) a.1 in
     let c = and_parts (leb (last_room m) l.places) (leb (last_room m) (length s)) b.1 in

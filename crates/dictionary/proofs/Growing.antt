@@ -1,6 +1,5 @@
 -- making nodes with their labels, one after another
-use Rattle.std.proofs.Common.{◌≡◌, ℕ, zero, suc, ◌+◌, ◌-◌, ◌<◌, List, [], ◌∷◌, ◌++◌, length, drop, None, Ok, Err, Result, sym, refl, ap, ◌∙◌, subst, inl, inr, arith}
-use lib.Seq.{drop-length}
+use Rattle.std.proofs.Common.{◌≡◌, ℕ, zero, suc, ◌+◌, ◌-◌, ◌<◌, ◌≤◌, List, [], ◌∷◌, ◌++◌, length, drop, None, Ok, Err, Result, sym, refl, ap, ◌∙◌, subst, inl, inr, arith, length-drop}
 use Rattle.std.proofs.lemmas.List.{length_push}
 use Rattle.std.proofs.lemmas.Bool.{lt-ltb, le-ltb, cases_lt}
 use Rattle.rules.specs.declared.step.Step.TheVariants.{By32}
@@ -24,32 +23,24 @@ pub append_places : (l l' : Store) (s : List ℕ) (from : ℕ) → l' ≡ append
 unfolding append_next
 append_places l l' s from e = ap (λ (z : Store). z.places) e ∙ appended_places l s from (append_answer l s from)
 
-module _ (m : Map) (l : Store) (u c : ℕ) (s : List ℕ) (from : ℕ) (can : CanMake m l u c s from) where
-  pub add_ok : add_answer By32 m u c ≡ Ok (count_of m)
-  unfolding add_answer
-  add_ok = rw (lt-ltb u (count_of m) can.inside, lt-ltb c (symbol_count By32) can.symbol, can.free, lt-ltb (count_of m) m.room can.room, add_answer) refl
+-- the next map and store, where a node and its label can be made
+module _ (m : Map) (l : Store) (u c : ℕ) (s : List ℕ) (from : ℕ) (inside : from ≤ length s) (can : CanMake m l u c (drop from s)) where
+  pub add_next_lem : add_next By32 m u c ≡ with_edge m u c
+  unfolding add_next add_answer
+  add_next_lem = rw (lt-ltb u (count_of m) can.inside, lt-ltb c (symbol_count By32) can.symbol, can.free, lt-ltb (count_of m) m.room can.room, add_answer, add_next) refl
 
-  add_next_lem : add_next By32 m u c ≡ with_edge m u c
-  unfolding add_next
-  add_next_lem = rw (add_ok, add_next) refl
-
-  append_ok : append_answer l s from ≡ Ok tt
-  unfolding append_answer
-  append_ok =
+  pub append_next_lem : append_next l s from ≡ with_label l (drop from s)
+  unfolding append_next append_answer
+  append_next_lem =
+      let n : length (drop from s) ≡ length s - from = length-drop from s in
       rw (
-        le-ltb (length s) from can.from_in,
-        le-ltb longest (length s - from) can.short,
+        le-ltb (length s) from inside,
+        le-ltb longest (length s - from) (omega (arith, can.short)),
         lt-ltb (length l.labels) l.places can.place,
-        le-ltb l.byte_room (bytes_in l.labels + (length s - from)) can.bytes,
+        le-ltb l.byte_room (bytes_in l.labels + (length s - from)) (omega (arith, can.bytes)),
         append_answer,
+        append_next,
       ) refl
-
-  append_next_lem : append_next l s from ≡ with_label l (drop from s)
-  unfolding append_next
-  append_next_lem = rw (append_ok, append_next) refl
-
-  pub made : (m' : Map) (l' : Store) (r : ℕ) → m' ≡ add_next By32 m u c → l' ≡ append_next l s from → r ≡ count_of m → Made m l u c s from m' l' r
-  made m' l' r e f q = record { map_is = e ∙ add_next_lem; store_is = f ∙ append_next_lem; ticket = q }
 
 module _ (edges : List Edge) (u c : ℕ) (closed : Closed edges) (h : u < node_count edges) where
   abbrev e : Edge
@@ -86,32 +77,30 @@ grow_last : (t : Tree) (u c : ℕ) (rest : List ℕ) → grow By32 t u 0 c rest 
 unfolding grow
 grow_last t u c rest = refl
 
-module _ (m : Map) (l : Store) (u k c : ℕ) (s : List ℕ) (from : ℕ) where
-  pub can_step : CanGrow m l u k c s from → 0 < k → (d : ℕ) → d ≡ step_symbol By32 → CanMake m l u d s (length s)
+module _ (m : Map) (l : Store) (u k c : ℕ) (label : List ℕ) where
+  pub can_step : CanGrow m l u k c label → 0 < k → (d : ℕ) → d ≡ step_symbol By32 → CanMake m l u d []
   can_step g h d e = record {
     inside = g.opened.inside;
     symbol = omega arith;
     free = ap (λ (z : ℕ). child m.edges u z) e ∙ g.opened.step h;
     room = omega (arith, g.room);
-    from_in = omega arith;
     short = omega arith;
     place = omega (arith, g.counted, g.room, g.places);
     bytes = omega (arith, g.bytes);
   }
 
-  pub can_last : CanGrow m l u k c s from → k ≡ 0 → CanMake m l u c s from
+  pub can_last : CanGrow m l u k c label → k ≡ 0 → CanMake m l u c label
   can_last g h = record {
     inside = g.opened.inside;
     symbol = g.symbol;
     free = g.opened.last h;
     room = omega (arith, g.room);
-    from_in = g.from_in;
     short = omega (arith, g.short);
     place = omega (arith, g.counted, g.room, g.places);
     bytes = omega (arith, g.bytes);
   }
 
-  can_more : CanGrow m l u k c s from → 0 < k → CanGrow (with_edge m u (step_symbol By32)) (with_label l []) (count_of m) (k - 1) c s from
+  can_more : CanGrow m l u k c label → 0 < k → CanGrow (with_edge m u (step_symbol By32)) (with_label l []) (count_of m) (k - 1) c label
   can_more g h =
       let ln = length_push m.edges (record { parent = u; symbol = step_symbol By32 }) in
       let ll = length_push l.labels [] in
@@ -127,47 +116,46 @@ module _ (m : Map) (l : Store) (u k c : ℕ) (s : List ℕ) (from : ℕ) where
         room = omega (arith, g.room, ln);
         counted = omega (arith, g.counted, ln, ll);
         places = g.places;
-        from_in = g.from_in;
         short = g.short;
         bytes = omega (arith, g.bytes, bb);
       }
 
   -- on the way
   pub record Growing (m' : Map) (l' : Store) (node missing : ℕ) : Type 0 where
-    pub can : CanGrow m' l' node missing c s from
-    pub rest : grow By32 (tree_in m' l') node missing c (drop from s) ≡ grow By32 (tree_in m l) u k c (drop from s)
+    pub can : CanGrow m' l' node missing c label
+    pub rest : grow By32 (tree_in m' l') node missing c label ≡ grow By32 (tree_in m l) u k c label
     pub room : m'.room ≡ m.room
     pub coming : m'.coming ≡ m.coming
     pub byte_room : l'.byte_room ≡ l.byte_room
     pub places : l'.places ≡ l.places
     pub count : count_of m' + missing ≡ count_of m + k
 
-  pub growing_first : CanGrow m l u k c s from → Growing m l u k
-  growing_first g = record { can = g; rest = refl; room = refl; coming = refl; byte_room = refl; places = refl; count = refl }
+  pub growing_first : (missing : ℕ) → missing ≡ k → CanGrow m l u k c label → Growing m l u missing
+  growing_first missing e g = rw e (record { can = g; rest = refl; room = refl; coming = refl; byte_room = refl; places = refl; count = refl })
 
-module _ (m : Map) (l : Store) (u k c : ℕ) (s : List ℕ) (from : ℕ) (m' : Map) (l' : Store) (node missing : ℕ) (g : Growing m l u k c s from m' l' node missing) (m'' : Map) (l'' : Store) (r : ℕ) where
-  pub growing_more : 0 < missing → (d : ℕ) → d ≡ step_symbol By32 → Made m' l' node d s (length s) m'' l'' r → Growing m l u k c s from m'' l'' r (missing - 1)
-  growing_more h d e made =
+module _ (m : Map) (l : Store) (u k c : ℕ) (label : List ℕ) (m' : Map) (l' : Store) (node missing : ℕ) (g : Growing m l u k c label m' l' node missing) (m'' : Map) (l'' : Store) (r : ℕ) where
+  pub growing_more : (fewer : ℕ) → fewer ≡ missing - 1 → 0 < missing → (d : ℕ) → d ≡ step_symbol By32 → Made m' l' node d [] m'' l'' r → Growing m l u k c label m'' l'' r fewer
+  growing_more fewer z h d e made =
       let map_is : m'' ≡ with_edge m' node (step_symbol By32) = made.map_is ∙ ap (with_edge m' node) e in
-      let store_is : l'' ≡ with_label l' [] = made.store_is ∙ ap (with_label l') (drop-length s) in
+      let store_is : l'' ≡ with_label l' [] = made.store_is in
       let ln = length_push m'.edges (record { parent = node; symbol = step_symbol By32 }) in
-      subst (λ (z : Map). Growing m l u k c s from z l'' r (missing - 1)) (sym map_is)
-      (subst (λ (z : Store). Growing m l u k c s from (with_edge m' node (step_symbol By32)) z r (missing - 1)) (sym store_is)
-      (subst (λ (z : ℕ). Growing m l u k c s from (with_edge m' node (step_symbol By32)) (with_label l' []) z (missing - 1)) (sym made.ticket) (record {
-        can = can_more m' l' node missing c s from g.can h;
-        rest = sym (grow_step (tree_in m' l') node missing c (drop from s) h) ∙ g.rest;
+      rw z (subst (λ (z : Map). Growing m l u k c label z l'' r (missing - 1)) (sym map_is)
+      (subst (λ (z : Store). Growing m l u k c label (with_edge m' node (step_symbol By32)) z r (missing - 1)) (sym store_is)
+      (subst (λ (z : ℕ). Growing m l u k c label (with_edge m' node (step_symbol By32)) (with_label l' []) z (missing - 1)) (sym made.ticket) (record {
+        can = can_more m' l' node missing c label g.can h;
+        rest = sym (grow_step (tree_in m' l') node missing c label h) ∙ g.rest;
         room = g.room;
         coming = g.coming;
         byte_room = g.byte_room;
         places = g.places;
         count = omega (arith, g.count, ln);
-      })))
+      }))))
 
-  pub growing_end : missing ≡ 0 → Made m' l' node c s from m'' l'' r → Grown m l u k c s from m'' l'' r
+  pub growing_end : missing ≡ 0 → Made m' l' node c label m'' l'' r → Grown m l u k c label m'' l'' r
   growing_end h made =
-      subst (λ (z : Map). Grown m l u k c s from z l'' r) (sym made.map_is)
-      (subst (λ (z : Store). Grown m l u k c s from (with_edge m' node c) z r) (sym made.store_is) (record {
-        tree = sym (grow_last (tree_in m' l') node c (drop from s)) ∙ ap (λ (z : ℕ). grow By32 (tree_in m' l') node z c (drop from s)) (sym h) ∙ g.rest;
+      subst (λ (z : Map). Grown m l u k c label z l'' r) (sym made.map_is)
+      (subst (λ (z : Store). Grown m l u k c label (with_edge m' node c) z r) (sym made.store_is) (record {
+        tree = sym (grow_last (tree_in m' l') node c label) ∙ ap (λ (z : ℕ). grow By32 (tree_in m' l') node z c label) (sym h) ∙ g.rest;
         room = g.room;
         coming = g.coming;
         byte_room = g.byte_room;

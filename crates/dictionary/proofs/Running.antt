@@ -1,17 +1,15 @@
 -- whole runs of a dictionary, call by call
-use Rattle.std.proofs.Common.{◌≡◌, ℕ, ◌+◌, ◌-◌, ◌<◌, ◌≤◌, min, ltb, List, [], ◌∷◌, ◌++◌, length, get_or, take, drop, set, replicate, sym, refl, ap, ◌∙◌, subst, inl, inr, arith, length-append, length-drop, length-take}
+use Rattle.std.proofs.Common.{◌≡◌, ℕ, ◌+◌, ◌-◌, ◌<◌, ◌≤◌, min, ltb, List, [], ◌∷◌, ◌++◌, length, get_or, take, drop, set, replicate, Err, sym, refl, ap, ◌∙◌, subst, inl, inr, arith, length-append, length-drop, length-take}
 use lib.ListN.{length-replicate}
 use borrow.Rule.Slice.PartMut.{put_mid}
 use Rattle.std.proofs.lemmas.List.{append_assoc, append-nil, get_or-take, take_all, drop_all, drop-drop, drop_more, drop-set-lt, take_more_set, at_drop_all, take-append-drop, take_at, drop_at, nil_from_length, set_at, replicate_more}
 use Rattle.std.proofs.lemmas.Slice.{take-put_mid, drop-put_mid}
 use Rattle.std.proofs.lemmas.Bool.{cases_lt, cases_Bool, ltb-false}
 use Rattle.tags.specs.declared.refusal.Refusal.TheVariants.{UnfitParts}
-use Rattle.rules.specs.declared.answers.Answer.{Answer}
-use Rattle.rules.specs.declared.answers.Answer.TheVariants.{Refused}
 use Rattle.rules.specs.declared.answers.Call.{Call}
 use Rattle.rules.specs.declared.answers.Call.TheVariants.{Enter, Change, Find, Strike, Spell, Double}
 use Rattle.rules.specs.Calls.{Book, tag_with, spell_buffer}
-use Rattle.rules.specs.Runs.{turn, buffer_after, replies, book_after}
+use Rattle.rules.specs.Runs.{Answered, turn, buffer_after, replies, book_after}
 use Rattle.rules.proofs.Values.{cases_option}
 use Rattle.dictionary.specs.Runs.{buffer_size, request_of, leaves, requests, gotten, buffer_sizes, made, RanAs, RanUnfit}
 
@@ -43,7 +41,7 @@ put_back from k memory buffer e =
 
 module _ {V : Type 0} where
   -- the answers and the memory after calls that a book answers
-  abbrev pub answers_after : Book V → List (Call V) → List (Answer V) → List ℕ → List (Answer V)
+  abbrev pub answers_after : Book V → List (Call V) → List (Answered V) → List ℕ → List (Answered V)
   answers_after b [] answers memory = answers
   answers_after b (c ∷ cs) [] memory = []
   answers_after b (c ∷ cs) (a ∷ answers) memory =
@@ -55,8 +53,8 @@ module _ {V : Type 0} where
       leaves b c (take (buffer_size c) memory) ++ memory_after (turn b (request_of c (take (buffer_size c) memory))).next cs (drop (buffer_size c) memory)
 
   -- what is done, by the first i calls on the first bytes, and what is to come are together the whole run
-  pub record SoFar (start : Book V) (calls : List (Call V)) (answers₀ : List (Answer V)) (memory₀ : List ℕ)
-      (i from : ℕ) (answers : List (Answer V)) (memory : List ℕ) (Shown : Book V → Type 0) : Type 0 where
+  pub record SoFar (start : Book V) (calls : List (Call V)) (answers₀ : List (Answered V)) (memory₀ : List ℕ)
+      (i from : ℕ) (answers : List (Answered V)) (memory : List ℕ) (Shown : Book V → Type 0) : Type 0 where
     pub book : Book V
     pub shows : Shown book
     pub answered : take i answers ++ answers_after book (drop i calls) (drop i answers) (drop from memory) ≡ answers_after start calls answers₀ memory₀
@@ -64,15 +62,15 @@ module _ {V : Type 0} where
     pub last : book_after book (requests (drop i calls) (drop from memory)) ≡ book_after start (requests calls memory₀)
 
   -- a call that is made is the next of those
-  pub next_made : (calls : List (Call V)) (answers : List (Answer V)) (i : ℕ) (x : Call V) → i < length calls → i < length answers → x ≡ get_or calls i x
+  pub next_made : (calls : List (Call V)) (answers : List (Answered V)) (i : ℕ) (x : Call V) → i < length calls → i < length answers → x ≡ get_or calls i x
       → drop i (made calls answers) ≡ x ∷ drop (i + 1) (made calls answers)
   next_made calls answers i x h k e =
       let inside : i < length (made calls answers) = omega (arith, length-take (length answers) calls) in
       drop_more (made calls answers) i x inside ∙ ap (λ (y : Call V). y ∷ drop (i + 1) (made calls answers)) (get_or-take (length answers) calls i x k ∙ sym e)
 
   -- one more call, on the k bytes of the memory from `from` on
-  pub so_far_more : {start : Book V} {calls : List (Call V)} {answers₀ : List (Answer V)} {memory₀ : List ℕ} (i from n k : ℕ) (x : Call V)
-      (answers answers' : List (Answer V)) (a : Answer V) (memory buffer : List ℕ) (Shown Shown' : Book V → Type 0)
+  pub so_far_more : {start : Book V} {calls : List (Call V)} {answers₀ : List (Answered V)} {memory₀ : List ℕ} (i from n k : ℕ) (x : Call V)
+      (answers answers' : List (Answered V)) (a : Answered V) (memory buffer : List ℕ) (Shown Shown' : Book V → Type 0)
       → drop i calls ≡ x ∷ drop (i + 1) calls → i < length answers → from ≤ length memory → n ≡ min (buffer_size x) (length memory - from) → k ≡ n
       → (s : SoFar start calls answers₀ memory₀ i from answers memory Shown)
       → a ≡ (turn s.book (request_of x (take k (drop from memory)))).answer
@@ -92,7 +90,7 @@ module _ {V : Type 0} where
       let more : take (i + 1) answers' ≡ take i answers ++ (a ∷ []) = ap (take (i + 1)) set_is ∙ take_more_set answers i a inside in
       let later : drop (i + 1) answers' ≡ drop (i + 1) answers = ap (drop (i + 1)) set_is ∙ drop-set-lt (i + 1) answers i a (omega arith) in
       let old : drop i answers ≡ get_or answers i a ∷ drop (i + 1) answers = drop_more answers i a inside in
-      let rest : List (Answer V) = answers_after (turn b (request_of x (take k there))).next cs (drop (i + 1) answers) (drop k there) in
+      let rest : List (Answered V) = answers_after (turn b (request_of x (take k there))).next cs (drop (i + 1) answers) (drop k there) in
       let answers-join : (take i answers ++ (a ∷ [])) ++ rest ≡ take i answers ++ (a ∷ rest) = append_assoc (take i answers) (a ∷ []) rest in
       let bytes : List ℕ = memory_after (turn b (request_of x (take k there))).next cs (drop k there) in
       let memory-join : (take from memory ++ buffer) ++ bytes ≡ take from memory ++ (buffer ++ bytes) = append_assoc (take from memory) buffer bytes in
@@ -152,7 +150,7 @@ module _ {V : Type 0} where
       (k.0 ∙ leaves_book b c memory, k.1)
 
   -- what each call got is what the book says
-  got_after : (b : Book V) (calls : List (Call V)) (answers : List (Answer V)) (memory : List ℕ) → length calls ≤ length answers
+  got_after : (b : Book V) (calls : List (Call V)) (answers : List (Answered V)) (memory : List ℕ) → length calls ≤ length answers
       → gotten calls (answers_after b calls answers memory) (memory_after b calls memory) ≡ replies b (requests calls memory)
   got_after b [] answers memory h = refl
   got_after b (c ∷ cs) [] memory h = absurd (omega arith)
@@ -163,7 +161,7 @@ module _ {V : Type 0} where
       let more = got_after (turn b (request_of c (take (buffer_size c) memory))).next cs answers (drop (buffer_size c) memory) (omega arith) in
       cc
 
-  later_answers_lem : (b : Book V) (calls : List (Call V)) (answers : List (Answer V)) (memory : List ℕ) → drop (length calls) (answers_after b calls answers memory) ≡ drop (length calls) answers
+  later_answers_lem : (b : Book V) (calls : List (Call V)) (answers : List (Answered V)) (memory : List ℕ) → drop (length calls) (answers_after b calls answers memory) ≡ drop (length calls) answers
   later_answers_lem b [] answers memory = refl
   later_answers_lem b (c ∷ cs) [] memory = refl
   later_answers_lem b (c ∷ cs) (a ∷ answers) memory = later_answers_lem (turn b (request_of c (take (buffer_size c) memory))).next cs answers (drop (buffer_size c) memory)
@@ -177,7 +175,7 @@ module _ {V : Type 0} where
       ∙ drop-drop (buffer_sizes cs) (buffer_size c) memory
 
   -- no call is left
-  module _ (start : Book V) (calls : List (Call V)) (answers₀ : List (Answer V)) (memory₀ : List ℕ) (i from : ℕ) (answers : List (Answer V)) (memory : List ℕ) (Shown : Book V → Type 0)
+  module _ (start : Book V) (calls : List (Call V)) (answers₀ : List (Answered V)) (memory₀ : List ℕ) (i from : ℕ) (answers : List (Answered V)) (memory : List ℕ) (Shown : Book V → Type 0)
       (all : length calls ≤ i) (s : SoFar start calls answers₀ memory₀ i from answers memory Shown) where
     pub ran_all : length calls ≤ length answers₀ → RanAs start calls answers₀ memory₀ answers memory
     ran_all room =
@@ -201,7 +199,7 @@ module _ {V : Type 0} where
         subst Shown (sym none ∙ s.last) s.shows
 
   -- one more refusal
-  pub refused_more : (answers₀ answers answers' : List (Answer V)) (i : ℕ) (a r : Answer V) → i < length answers₀ → answers ≡ replicate i r ++ drop i answers₀ → a ≡ r → answers' ≡ set answers i a
+  pub refused_more : (answers₀ answers answers' : List (Answered V)) (i : ℕ) (a r : Answered V) → i < length answers₀ → answers ≡ replicate i r ++ drop i answers₀ → a ≡ r → answers' ≡ set answers i a
       → answers' ≡ replicate (i + 1) r ++ drop (i + 1) answers₀
   refused_more answers₀ answers answers' i a r h e f set_is =
       let open_up : drop i answers₀ ≡ get_or answers₀ i r ∷ drop (i + 1) answers₀ = drop_more answers₀ i r h in
@@ -211,6 +209,6 @@ module _ {V : Type 0} where
       let grown : replicate i r ++ (r ∷ []) ≡ replicate (i + 1) r = replicate_more i r in
       cc
 
-  pub refused_all : (calls : List (Call V)) (answers answers' : List (Answer V)) (memory memory' : List ℕ) (i : ℕ) → i ≡ length calls
-      → answers' ≡ replicate i (Refused UnfitParts) ++ drop i answers → memory' ≡ memory → RanUnfit calls answers memory answers' memory'
+  pub refused_all : (calls : List (Call V)) (answers answers' : List (Answered V)) (memory memory' : List ℕ) (i : ℕ) → i ≡ length calls
+      → answers' ≡ replicate i (Err UnfitParts) ++ drop i answers → memory' ≡ memory → RanUnfit calls answers memory answers' memory'
   refused_all calls answers answers' memory memory' i all e f = record { refused = rw (← all) e; untouched = f }

@@ -1,17 +1,19 @@
 -- a live row takes a value or is struck, and the room is doubled
-use Rattle.std.proofs.Common.{◌≡◌, ℕ, ◌<◌, ◌⊎◌, List, [], ◌∷◌, length, set, Some, None, Ok, Err, Option, Result, sym, refl, ap, ◌∙◌, subst, inl, inr, arith, length-set, get_or-set_other, get_or-set_same}
+use Rattle.std.proofs.Common.{◌≡◌, ℕ, ◌<◌, ◌⊎◌, List, [], ◌∷◌, length, set, Some, None, Ok, Err, Option, Result, MatchResult, IsErrAnd, sym, refl, ap, ◌∙◌, subst, inl, inr, arith, length-set, get_or-set_other, get_or-set_same}
 use lib.Seq.{map-set_same}
 use Rattle.std.proofs.lemmas.Bool.{cases_eq}
+use Rattle.std.proofs.lemmas.Result.{err_from_is_err_and}
 use Rattle.tags.specs.declared.refusal.MapFault.{MapFault}
 use Rattle.tags.specs.declared.refusal.MapFault.TheVariants.{LastRoom}
 use Rattle.tags.specs.declared.refusal.Refusal.{Refusal}
 use Rattle.tags.specs.declared.refusal.Refusal.TheVariants.{NoLiveRow, NoNextRoom}
 use Rattle.tags.specs.Tags.{tag_refusal}
 use Rattle.rules.specs.declared.step.Step.TheVariants.{By32}
-use Rattle.rules.specs.declared.answers.Found.TheVariants.{Held, Absent}
+use Rattle.rules.specs.declared.answers.Found.{Found}
+use Rattle.rules.specs.declared.answers.Held.{Held}
 use Rattle.rules.specs.Tree.{tree_of}
 use Rattle.rules.specs.Book.{first_row, row_at, absent_moves, row_of, tags_of}
-use Rattle.rules.specs.Calls.{Book, Turn, refuses, with_value, takes, on_live_row, find_in, find, double}
+use Rattle.rules.specs.Calls.{Book, holds, absent, Turn, refuses, with_value, takes, on_live_row, find_in, find, double}
 use Rattle.rules.proofs.Rows.{row_is}
 use Rattle.rules.proofs.Values.{cases_option}
 use Rattle.rules.proofs.Finds.{takes_sound, double_sound}
@@ -80,8 +82,8 @@ module _ {V : Type 0} (b : Book V) (tag : List ℕ) where
   -- what a find answers, and what a call on a live row does
   data Lives : Type 0 where
     bad : (why : Refusal) → find b tag ≡ Err why → ((value : Option V) → on_live_row b tag value ≡ refuses b why) → Lives
-    dead : (moves : ℕ) → find b tag ≡ Ok (Absent moves) → ((value : Option V) → on_live_row b tag value ≡ refuses b NoLiveRow) → Lives
-    alive : (j : ℕ) (held : V) → j < length b.rows → find b tag ≡ Ok (Held (row_at b.rows j).ticket held (row_at b.rows j).moves)
+    dead : (moves : ℕ) → find b tag ≡ Ok (absent moves) → ((value : Option V) → on_live_row b tag value ≡ refuses b NoLiveRow) → Lives
+    alive : (j : ℕ) (held : V) → j < length b.rows → find b tag ≡ Ok (holds (row_at b.rows j).ticket held (row_at b.rows j).moves)
         → ((value : Option V) → on_live_row b tag value ≡ takes b j value) → Lives
 
   live_turn : tag_refusal tag ≡ None → (value : Option V) → on_live_row b tag value ≡ (elim (row_of b.rows tag) as (λ _. Turn (Result ℕ Refusal) V) [
@@ -106,25 +108,31 @@ module _ {V : Type 0} (b : Book V) (tag : List ℕ) where
   ]
 
   -- the answer of a call on a live row, from what find answers
-  pub held_answer : (t : ℕ) (held : V) (k : ℕ) → Ok (Held t held k) ≡ find b tag → Ok t ≡ (on_live_row b tag None).answer
+  pub held_answer : (found : Found V) → Ok found ≡ find b tag → (row : Held V) → found.held ≡ Some row → Ok row.ticket ≡ (on_live_row b tag None).answer
   unfolding takes
-  held_answer t held k e = go lives
+  held_answer found e row r = go lives
     where
-      go : Lives → Ok t ≡ (on_live_row b tag None).answer
-      go (bad why q f) = absurd (ok_not (e ∙ q))
-      go (dead moves q f) = absurd (let c = ok_is (e ∙ q) in let z : ◌≡◌ {A = ℕ} 0 1 = cc in omega arith)
-      go (alive j v h q f) =
-          let c = ok_is (e ∙ q) in
-          let d : t ≡ (row_at b.rows j).ticket = cc in
-          ap Ok d ∙ sym (ap (λ (z : Turn (Result ℕ Refusal) V). z.answer) (f None))
+      holding : (o : Option (Held V)) (k : ℕ) → Ok (record { held = o; moves = k }) ≡ find b tag → Some row ≡ o
+      holding o k q = r' (ok_is (e ∙ sym q))
+        where
+          r' : found ≡ record { held = o; moves = k } → Some row ≡ o
+          r' z = sym r ∙ ap (λ (y : Found V). y.held) z
 
-  pub absent_answer : (k : ℕ) → Ok (Absent k) ≡ find b tag → Err NoLiveRow ≡ (on_live_row b tag None).answer
-  absent_answer k e = go lives
+      go : Lives → Ok row.ticket ≡ (on_live_row b tag None).answer
+      go (bad why q f) = absurd (ok_not (e ∙ q))
+      go (dead moves q f) = absurd (let h = holding None moves (sym q) in let z : ◌≡◌ {A = ℕ} 0 1 = cc in omega arith)
+      go (alive j v h q f) =
+          let c = holding _ _ (sym q) in
+          let d : row ≡ record { ticket = (row_at b.rows j).ticket; value = v } = cc in
+          ap (λ (z : Held V). Ok z.ticket) d ∙ sym (ap (λ (z : Turn (Result ℕ Refusal) V). z.answer) (f None))
+
+  pub absent_answer : (found : Found V) → Ok found ≡ find b tag → found.held ≡ None → Err NoLiveRow ≡ (on_live_row b tag None).answer
+  absent_answer found e n = go lives
     where
       go : Lives → Err NoLiveRow ≡ (on_live_row b tag None).answer
       go (bad why q f) = absurd (ok_not (e ∙ q))
       go (dead moves q f) = sym (ap (λ (z : Turn (Result ℕ Refusal) V). z.answer) (f None))
-      go (alive j v h q f) = absurd (let c = ok_is (e ∙ q) in let z : ◌≡◌ {A = ℕ} 0 1 = cc in omega arith)
+      go (alive j v h q f) = absurd (let c = sym n ∙ ap (λ (y : Found V). y.held) (ok_is (e ∙ q)) in let z : ◌≡◌ {A = ℕ} 0 1 = cc in omega arith)
 
   pub refused_answer : (why : Refusal) → Err why ≡ find b tag → Err why ≡ (on_live_row b tag None).answer
   refused_answer why e = go lives
@@ -175,9 +183,9 @@ double_last {V} b e = go b.coming e
     go (room ∷ more) q = absurd (omega (arith, ap (λ (z : List ℕ). length z) q))
 
 module _ {V : Type 0} (m : Map) (l : Store) (s : List (Option V)) (b : Book V) (sh : Shows m l s b) (m' : Map) (e : m' ≡ double_next m) where
-  pub did_double : (r : ℕ) → Ok r ≡ double_answer m → Did m' l s (double b) (Ok r)
+  did_room : (r : ℕ) → Ok r ≡ double_answer m → Did m' l s (double b) (Ok r)
   unfolding double
-  did_double r a = elim (cases_list m.coming) [
+  did_room r a = elim (cases_list m.coming) [
     | inl q ↦ absurd (let f : double_answer m ≡ Err LastRoom = rw q refl in ok_not (a ∙ f))
     | inr q ↦
         let bq : b.coming ≡ q.0 ∷ q.1 = sym sh.coming ∙ q.2 in
@@ -202,7 +210,7 @@ module _ {V : Type 0} (m : Map) (l : Store) (s : List (Option V)) (b : Book V) (
         })
   ]
 
-  pub did_last : (fault : MapFault) → Err fault ≡ double_answer m → Did m' l s (double b) (Err (NoNextRoom fault))
+  did_last : (fault : MapFault) → Err fault ≡ double_answer m → Did m' l s (double b) (Err (NoNextRoom fault))
   unfolding double
   did_last fault a = elim (cases_list m.coming) [
     | inr q ↦ absurd (let f : double_answer m ≡ Ok q.0 = rw q.2 refl in err_not (a ∙ f))
@@ -215,3 +223,8 @@ module _ {V : Type 0} (m : Map) (l : Store) (s : List (Option V)) (b : Book V) (
         let t = double_last b bq in
         subst (λ (z : Map). Did z l s (double b) (Err (NoNextRoom fault))) (sym n) (did_refuse m l s b sh (double b) (NoNextRoom fault) (t ∙ ap (λ (z : MapFault). refuses b (NoNextRoom z)) (sym same)))
   ]
+
+  pub did_double : (r : Result ℕ MapFault) → r ≡ double_answer m → (answer : Result ℕ Refusal)
+      → MatchResult r (λ room. answer ≡ Ok room) (λ fault. IsErrAnd answer (λ why. why ≡ NoNextRoom fault)) → Did m' l s (double b) answer
+  did_double (Ok room) a answer h = rw h (did_room room a)
+  did_double (Err fault) a answer h = let p = err_from_is_err_and answer h in rw (p.1, p.2) (did_last fault a)

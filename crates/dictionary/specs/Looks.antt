@@ -1,5 +1,5 @@
 -- where looking ends, in the words of the code and of the tree
-use Rattle.std.specs.Prelude.{◌≡◌, ℕ, ◌<◌, ◌≤◌, List, length, drop, None}
+use Rattle.std.specs.Prelude.{◌≡◌, ℕ, ◌<◌, ◌≤◌, List, length, None, Ok, Err, Result}
 use Rattle.tags.specs.Tags.{WellFormed, spelled}
 use Rattle.rules.specs.declared.step.Step.TheVariants.{By32}
 use Rattle.rules.specs.Steps.{symbol_count, step_symbol}
@@ -8,21 +8,28 @@ use Rattle.rules.specs.Laws.{AllWellFormed}
 use Rattle.parts.specs.Maps.{Map}
 use Rattle.parts.specs.Stores.{Store}
 use Rattle.dictionary.specs.declared.descent.Reached.{Reached}
+use Rattle.dictionary.specs.declared.descent.Gap.{Gap}
 use Rattle.dictionary.specs.declared.descent.Place.{Place}
-use Rattle.dictionary.specs.declared.descent.Place.TheVariants.{There, Lacks}
 use Rattle.dictionary.specs.Shows.{tree_in}
 
 abbrev pub reached : Reached → Down
 reached r = record { node = r.node; missing = r.missing }
 
-abbrev pub placed : List ℕ → Place → Look
-placed s (There node moves) = there node moves
-placed s (Lacks gap moves) = lacks gap.node gap.missing gap.symbol (drop gap.from s) moves
+abbrev pub look_end : Result ℕ Gap → ℕ → Look
+look_end (Ok node) moves = there node moves
+look_end (Err gap) moves = lacks gap.node gap.missing gap.symbol gap.label.now moves
+
+abbrev pub placed : Place → Look
+placed r = look_end r.end r.moves
+
+-- how large the parts of a gap in s are at most
+abbrev pub BoundedGap : List ℕ → Result ℕ Gap → Type 0
+BoundedGap s (Ok node) = Unit {0}
+BoundedGap s (Err gap) = (gap.missing ≤ 6) × (gap.symbol < symbol_count By32) × (length gap.label.now ≤ length s)
 
 -- what holds of every answer
 abbrev pub Bounded : List ℕ → Place → Type 0
-Bounded s (There node moves) = moves ≤ length s
-Bounded s (Lacks gap moves) = (gap.missing ≤ 6) × (gap.symbol < symbol_count By32) × (gap.from ≤ length s) × (moves ≤ length s)
+Bounded s r = (r.moves ≤ length s) × BoundedGap s r.end
 
 -- map and store hold the tree of these tags
 pub record Holds (m : Map) (l : Store) (tags : List (List ℕ)) : Type 0 where
@@ -40,7 +47,7 @@ pub record Asked (m : Map) (l : Store) (s : List ℕ) : Type 0 where
 
 -- the answer is that of looking in the tree
 abbrev pub Looked : Map → Store → List ℕ → Place → Type 0
-Looked m l s r = (a : Asked m l s) → placed s r ≡ look_for By32 (tree_in m l) a.tag
+Looked m l s r = (a : Asked m l s) → placed r ≡ look_for By32 (tree_in m l) a.tag
 
 -- below node u, k steps and then the child by c are to be made: the first of them is missing
 pub record Open (edges : List Edge) (u k c : ℕ) : Type 0 where
@@ -48,6 +55,9 @@ pub record Open (edges : List Edge) (u k c : ℕ) : Type 0 where
   pub step : 0 < k → child edges u (step_symbol By32) ≡ None
   pub last : k ≡ 0 → child edges u c ≡ None
 
+abbrev pub OpenGap : List Edge → Result ℕ Gap → Type 0
+OpenGap edges (Ok node) = Unit {0}
+OpenGap edges (Err gap) = Open edges gap.node gap.missing gap.symbol
+
 abbrev pub Opened : List Edge → Place → Type 0
-Opened edges (There node moves) = Unit {0}
-Opened edges (Lacks gap moves) = Open edges gap.node gap.missing gap.symbol
+Opened edges r = OpenGap edges r.end

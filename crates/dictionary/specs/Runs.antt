@@ -2,14 +2,13 @@
 use Rattle.std.specs.Prelude.{◌≡◌, ℕ, ◌+◌, true, false, List, [], ◌∷◌, ◌++◌, length, take, drop, replicate, Ok, Err, Option, slice_index_or}
 use Rattle.tags.specs.declared.refusal.Refusal.TheVariants.{UnfitParts}
 use Rattle.rules.specs.declared.answers.Found.{Found}
-use Rattle.rules.specs.declared.answers.Answer.{Answer}
-use Rattle.rules.specs.declared.answers.Answer.TheVariants.{Looked, Refused}
+use Rattle.rules.specs.declared.answers.Answer.TheVariants.{Looked}
 use Rattle.rules.specs.declared.answers.Call.{Call}
 use Rattle.rules.specs.declared.answers.Call.TheVariants.{Enter, Change, Find, Strike, Spell, Double}
 use Rattle.rules.specs.Book.{nodes, label_bytes}
 use Rattle.rules.specs.Tree.{bytes_in}
 use Rattle.rules.specs.Calls.{Book, spell_buffer}
-use Rattle.rules.specs.Runs.{Request, Enter as to_enter, Change as to_change, Find as to_find, Strike as to_strike, Spell as to_spell, Double as to_double, Reply, replies, book_after, is_double, but_doubles, AllRoomy}
+use Rattle.rules.specs.Runs.{Answered, Request, Enter as to_enter, Change as to_change, Find as to_find, Strike as to_strike, Spell as to_spell, Double as to_double, Reply, replies, book_after, is_double, but_doubles, AllRoomy}
 use Rattle.rules.specs.Laws.{TrueFind}
 use Rattle.parts.specs.Maps.{Map, count_of}
 use Rattle.parts.specs.Stores.{Store}
@@ -48,7 +47,7 @@ requests [] memory = []
 requests (c ∷ cs) memory = request_of c (take (buffer_size c) memory) ∷ requests cs (drop (buffer_size c) memory)
 
 -- what each call got, by its answer and its part of the memory after the run
-abbrev pub gotten : {V : Type 0} → List (Call V) → List (Answer V) → List ℕ → List (Reply V)
+abbrev pub gotten : {V : Type 0} → List (Call V) → List (Answered V) → List ℕ → List (Reply V)
 gotten [] answers memory = []
 gotten (c ∷ cs) [] memory = []
 gotten (c ∷ cs) (a ∷ answers) memory = record { answer = a; buffer = take (buffer_size c) memory } ∷ gotten cs answers (drop (buffer_size c) memory)
@@ -59,28 +58,28 @@ buffer_sizes [] = 0
 buffer_sizes (c ∷ cs) = buffer_size c + buffer_sizes cs
 
 -- the calls that are made: those that have a place for their answer
-abbrev pub made : {V : Type 0} → List (Call V) → List (Answer V) → List (Call V)
+abbrev pub made : {V : Type 0} → List (Call V) → List (Answered V) → List (Call V)
 made calls answers = take (length answers) calls
 
 -- each call got what the book says; answers and memory beyond are as they were
-pub record RanAs {V : Type 0} (b : Book V) (calls : List (Call V)) (answers : List (Answer V)) (memory : List ℕ) (answers' : List (Answer V)) (memory' : List ℕ) : Type 0 where
+pub record RanAs {V : Type 0} (b : Book V) (calls : List (Call V)) (answers : List (Answered V)) (memory : List ℕ) (answers' : List (Answered V)) (memory' : List ℕ) : Type 0 where
   pub got : gotten calls answers' memory' ≡ replies b (requests calls memory)
   pub later_answers : drop (length calls) answers' ≡ drop (length calls) answers
   pub later_memory : drop (buffer_sizes calls) memory' ≡ drop (buffer_sizes calls) memory
 
 -- every call got refusal 13, and the memory is as it was
-pub record RanUnfit {V : Type 0} (calls : List (Call V)) (answers : List (Answer V)) (memory : List ℕ) (answers' : List (Answer V)) (memory' : List ℕ) : Type 0 where
-  pub refused : answers' ≡ replicate (length calls) (Refused UnfitParts) ++ drop (length calls) answers
+pub record RanUnfit {V : Type 0} (calls : List (Call V)) (answers : List (Answered V)) (memory : List ℕ) (answers' : List (Answered V)) (memory' : List ℕ) : Type 0 where
+  pub refused : answers' ≡ replicate (length calls) (Err UnfitParts) ++ drop (length calls) answers
   pub untouched : memory' ≡ memory
 
 -- a find that is not refused is true: its moves are those of looking in the tree that stands at its turn
-abbrev pub FindsAreTrue : {V : Type 0} → Book V → List (Request V) → List (Answer V) → Type 0
+abbrev pub FindsAreTrue : {V : Type 0} → Book V → List (Request V) → List (Answered V) → Type 0
 FindsAreTrue {V} b qs answers = (before after : List (Request V)) (tag : List ℕ) (found : Found V) → qs ≡ before ++ (to_find tag ∷ after)
-    → slice_index_or answers (length before) (Refused UnfitParts) ≡ Looked found → TrueFind (book_after b before) tag found
+    → slice_index_or answers (length before) (Err UnfitParts) ≡ Ok (Looked found) → TrueFind (book_after b before) tag found
 
 -- a dictionary that was opened over fitting parts and ran these calls: all answers and buffers are the arrival book's; its
 -- parts show the book at the end; as many nodes and label bytes as the book has; finds are true
-pub record Served {V : Type 0} (m : Map) (l : Store) (calls : List (Call V)) (answers : List (Answer V)) (memory : List ℕ) (answers' : List (Answer V)) (memory' : List ℕ)
+pub record Served {V : Type 0} (m : Map) (l : Store) (calls : List (Call V)) (answers : List (Answered V)) (memory : List ℕ) (answers' : List (Answered V)) (memory' : List ℕ)
     (m' : Map) (l' : Store) (s' : List (Option V)) : Type 0 where
   pub ran : RanAs (fresh_book m l) calls answers memory answers' memory'
   pub shows : Shows m' l' s' (book_after (fresh_book m l) (requests calls memory))
@@ -90,7 +89,7 @@ pub record Served {V : Type 0} (m : Map) (l : Store) (calls : List (Call V)) (an
 
 -- a dictionary that was opened over parts of any state and ran these calls: it served where they fit; where they do not,
 -- every call got refusal 13 and the parts are as given. The space for labels and values is as it was
-pub record Opened {V : Type 0} (m : Map) (l : Store) (s : List (Option V)) (calls : List (Call V)) (answers : List (Answer V)) (memory : List ℕ) (answers' : List (Answer V)) (memory' : List ℕ)
+pub record Opened {V : Type 0} (m : Map) (l : Store) (s : List (Option V)) (calls : List (Call V)) (answers : List (Answered V)) (memory : List ℕ) (answers' : List (Answered V)) (memory' : List ℕ)
     (m' : Map) (l' : Store) (s' : List (Option V)) (AsGiven : Type 0) : Type 0 where
   pub served : open_answer m l s ≡ Ok tt → Served m l calls answers memory answers' memory' m' l' s'
   pub refused : open_answer m l s ≡ Err UnfitParts → RanUnfit calls answers memory answers' memory' × AsGiven
@@ -103,7 +102,7 @@ gotten_but_doubles (q ∷ qs) [] = []
 gotten_but_doubles (q ∷ qs) (r ∷ rs) = elim (is_double q) [ true ↦ gotten_but_doubles qs rs | false ↦ r ∷ gotten_but_doubles qs rs ]
 
 -- two runs whose calls differ at most in their doubles: where neither refuses for want of room, every call but double got the same
-abbrev pub AnsweredAlike : {V : Type 0} → List (Call V) → List ℕ → List (Answer V) → List ℕ → List (Call V) → List ℕ → List (Answer V) → List ℕ → Type 0
+abbrev pub AnsweredAlike : {V : Type 0} → List (Call V) → List ℕ → List (Answered V) → List ℕ → List (Call V) → List ℕ → List (Answered V) → List ℕ → Type 0
 AnsweredAlike calls memory answers' memory' others lent answered lent' =
     but_doubles (requests calls memory) ≡ but_doubles (requests others lent) → AllRoomy (gotten calls answers' memory') → AllRoomy (gotten others answered lent')
     → gotten_but_doubles (requests calls memory) (gotten calls answers' memory') ≡ gotten_but_doubles (requests others lent) (gotten others answered lent')

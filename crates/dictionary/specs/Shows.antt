@@ -1,8 +1,9 @@
 -- when a node map, a label store and a shelf show an arrival book
-use Rattle.std.specs.Prelude.{◌≡◌, ℕ, ◌<◌, ◌≤◌, Bool, cond, ◌&&◌, List, [], ◌∷◌, length, None, Ok, Err, Option, Result, ◌==◌, nat_le, slice_index_or}
+use Rattle.std.specs.Prelude.{◌≡◌, ℕ, ◌<◌, ◌≤◌, Bool, cond, ◌&&◌, List, [], ◌∷◌, length, Some, None, Ok, Err, Option, Result, ◌==◌, nat_le, slice_index_or}
 use Rattle.tags.specs.declared.refusal.Refusal.{Refusal}
 use Rattle.tags.specs.declared.refusal.Refusal.TheVariants.{UnfitParts}
 use Rattle.rules.specs.declared.step.Step.TheVariants.{By32}
+use Rattle.rules.specs.declared.answers.Held.{Held}
 use Rattle.rules.specs.Tree.{Tree, tree_of}
 use Rattle.rules.specs.Book.{Row, tags_of}
 use Rattle.rules.specs.Calls.{Book}
@@ -18,6 +19,11 @@ tree_in m l = record { edges = m.edges; labels = l.labels }
 unfoldable pub value_with : {V : Type 0} → List (Row V) → ℕ → Option V
 value_with [] n = None
 value_with (r ∷ rs) n = cond (r.ticket == n) r.value (value_with rs n)
+
+-- the row with a ticket that holds a value, if there is a value
+abbrev pub held_with : {V : Type 0} → ℕ → Option V → Option (Held V)
+held_with ticket None = None
+held_with ticket (Some value) = Some (record { ticket = ticket; value = value })
 
 pub record Shows {V : Type 0} (m : Map) (l : Store) (s : List (Option V)) (b : Book V) : Type 0 where
   -- the rows are those of their own tags, entered in order, and the steps are of 32

@@ -8,14 +8,15 @@ use tags::refusal::Refusal;
 
 // The six calls of a dictionary that is known only by the arrival book that it shows. For every book that it shows at a
 // call, the answer is the book's and it shows the book's next state after it. Where a call is refused nothing changes.
-// Over parts that did not fit, every call gives refusal 13.
+// Over parts that did not fit, every call is refused as over unfit parts. The clauses of four calls read alike: each names
+// its own call of the book, which one fact for all would hide.
 pub trait DictionaryCalls {
     type Value: Copy;
 
     // It shows this book.
     ghost shows: { Self → Book Self.Value → Type 0 };
 
-    // It was opened over parts that did not fit, and only gives 13.
+    // It was opened over parts that did not fit, and only says so.
     ghost unfit: { Self → Type 0 };
 
     // How many labels and values there is space for.

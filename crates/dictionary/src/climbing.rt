@@ -11,37 +11,31 @@ use parts::map::NodeMap;
 use parts::store::LabelStore;
 
 // Byte i of label v; 0 where there is none.
+#[tactic(auto, unfolding(parts::specs::Stores::byte_answer))]
 fn byte_at<L: LabelStore>(store: &L, v: u32, i: usize) -> u8
     ensures { v < length (L.LabelStore.meaning store.now).labels → i < length (label_at (L.LabelStore.meaning store.now) v) → result ≡ slice_index (label_at (L.LabelStore.meaning store.now) v) i }
 {
-    match store.byte(v, i) {
-        Ok(byte) => byte,
-        Err(_) => 0,
-    }
+    store.byte(v, i).unwrap_or(0)
 }
 
 // The length of label v; 0 where there is none.
+#[tactic(auto, unfolding(parts::specs::Stores::length_answer))]
 fn length_of<L: LabelStore>(store: &L, v: u32) -> usize
     ensures { v < length (L.LabelStore.meaning store.now).labels → result ≡ length (label_at (L.LabelStore.meaning store.now) v) }
 {
-    match store.length(v) {
-        Ok(n) => n,
-        Err(_) => 0,
-    }
+    store.length(v).unwrap_or(0)
 }
 
-// Lays the first n bytes of label v right before a place of the word, and answers where they begin.
+// Lays the first n bytes of label v right before a place of the word, and answers where they begin. By index, since a store
+// gives a label byte by byte.
 fn lay<L: LabelStore>(store: &L, v: u32, n: usize, word: &mut [u8], end: usize) -> usize
     requires { (n ≤ end) × (end ≤ length word.old) }
     ensures place { result + n ≡ end }
     ensures laid { v < length (L.LabelStore.meaning store.now).labels → n ≤ length (label_at (L.LabelStore.meaning store.now) v) → drop result word.new ≡ take n (label_at (L.LabelStore.meaning store.now) v) ++ drop end word.old }
 {
-    let mut i = n;
-    let mut at = end;
-    while i > 0 {
-        i -= 1;
-        at -= 1;
-        word[at] = byte_at(store, v, i);
+    let at = end - n;
+    for i in 0..n {
+        word[at + i] = byte_at(store, v, i);
     }
     at
 }
@@ -65,36 +59,31 @@ pub(crate) fn climb<M: NodeMap, L: LabelStore>(
         if i > end {
             return end;
         }
-        match map.up(node) {
-            Err(_) => return lay(store, node, i, word, end),
-            Ok(pair) => {
-                let (parent, symbol) = pair;
-                if symbol == STEP.step_symbol() {
-                    i += STEP.length();
-                } else {
-                    end = lay(store, node, i, word, end);
-                    if end == 0 {
-                        return 0;
-                    }
-                    end -= 1;
-                    word[end] = STEP.byte_of(symbol) as u8;
-                    i = STEP.place_of(symbol);
-                }
-                node = parent;
+        let Ok((parent, symbol)) = map.up(node) else {
+            return lay(store, node, i, word, end);
+        };
+        if symbol == STEP.step_symbol() {
+            i += STEP.length();
+        } else {
+            end = lay(store, node, i, word, end);
+            if end == 0 {
+                return 0;
             }
+            end -= 1;
+            word[end] = STEP.byte_of(symbol) as u8;
+            i = STEP.place_of(symbol);
         }
+        node = parent;
     }
 }
 
 // Whether a node is a row's. A tag's label may be empty, so a step node is told by its symbol.
+#[tactic(auto, unfolding(parts::specs::Maps::up_answer))]
 pub(crate) fn is_ticket<M: NodeMap, L: LabelStore>(map: &M, store: &L, ticket: u32) -> bool
     ensures { length (L.LabelStore.meaning store.now).labels ≤ count_of (M.NodeMap.meaning map.now) → result ≡ of_row (M.NodeMap.meaning map.now) (L.LabelStore.meaning store.now) ticket }
 {
-    if ticket >= store.count() {
-        return false;
-    }
-    match map.up(ticket) {
-        Ok(pair) => pair.1 != STEP.step_symbol(),
-        Err(_) => true,
-    }
+    ticket < store.count()
+        && map
+            .up(ticket)
+            .map_or(true, |(_, symbol)| symbol != STEP.step_symbol())
 }

@@ -21,41 +21,40 @@ pub(crate) struct Reached {
     pub(crate) moves: u32,
 }
 
-// What a tag in no row lacks: below the node, so many steps and then the child by the symbol. Its label would be the
-// spelled form from a place on.
+// What a tag in no row lacks: below the node, so many steps and then the child by the symbol, which has the label.
 #[derive(Clone, Copy)]
-pub(crate) struct Gap {
+pub(crate) struct Gap<'a> {
     pub(crate) node: u32,
     pub(crate) missing: u32,
     pub(crate) symbol: u16,
-    pub(crate) from: usize,
+    pub(crate) label: &'a [u8],
 }
 
-// Where looking for a tag ends, and the moves made.
+// Where looking for a tag ends, at its node or at what is missing, and the moves made.
 #[derive(Clone, Copy)]
-pub(crate) enum Place {
-    There { node: u32, moves: u32 },
-    Lacks { gap: Gap, moves: u32 },
+pub(crate) struct Place<'a> {
+    pub(crate) end: Result<u32, Gap<'a>>,
+    pub(crate) moves: u32,
 }
+
+// The functions here, of growing and of climbing take map and store, and not `Parts`: they know no shelf, whose meaning each
+// clause would then have to name. What stands in for a fault is never read where a book is shown, which their clauses
+// suppose; with a ghost field of `Dictionary` that says more, the proof of `enter` did not close.
 
 // The child of u by the symbol c; none also where there is no such node or symbol.
+#[tactic(auto, unfolding(parts::specs::Maps::child_answer))]
 pub(crate) fn child_of<M: NodeMap>(map: &M, u: u32, c: u16) -> Option<u32>
     ensures { u < count_of (M.NodeMap.meaning map.now) → c < symbol_count By32 → result ≡ child (M.NodeMap.meaning map.now).edges u c }
 {
-    match map.child(u, c) {
-        Ok(found) => found,
-        Err(_) => None,
-    }
+    map.child(u, c).unwrap_or(None)
 }
 
 // How many leading bytes label v and s share; 0 where there is no such label.
+#[tactic(auto, unfolding(parts::specs::Stores::meet_answer))]
 pub(crate) fn meet_of<L: LabelStore>(store: &L, v: u32, s: &[u8]) -> usize
     ensures { v < length (L.LabelStore.meaning store.now).labels → result ≡ shared s.now (label_at (L.LabelStore.meaning store.now) v) }
 {
-    match store.meet(v, s, 0) {
-        Ok(i) => i,
-        Err(_) => 0,
-    }
+    store.meet(v, s, 0).unwrap_or(0)
 }
 
 // Goes down k step children from u.
@@ -64,32 +63,26 @@ pub(crate) fn steps_down<M: NodeMap>(map: &M, u: u32, k: u32) -> Reached
     ensures reached { u < count_of (M.NodeMap.meaning map.now) → reached result ≡ down By32 (M.NodeMap.meaning map.now).edges k u }
 {
     let mut node = u;
-    let mut missing = k;
-    let mut moves = 0;
-    while missing > 0 {
+    for moves in 0..k {
         match child_of(map, node, STEP.step_symbol()) {
-            Some(v) => {
-                node = v;
-                missing -= 1;
-                moves += 1;
-            }
+            Some(v) => node = v,
             None => return Reached {
                 node,
-                missing,
+                missing: k - moves,
                 moves,
             },
         }
     }
     Reached {
         node,
-        missing,
-        moves,
+        missing: 0,
+        moves: k,
     }
 }
 
 // Looks for the spelled form s, from node 0 on. Each passage to a child is a move. What holds of every node map is told
 // with the count, and here with the answer.
-pub(crate) fn look<M: NodeMap, L: LabelStore>(map: &M, store: &L, s: &[u8]) -> Place
+pub(crate) fn look<'a, M: NodeMap, L: LabelStore>(map: &M, store: &L, s: &'a [u8]) -> Place<'a>
     requires { length s.now ≤ 201 }
     ensures facts { MapFacts By32 (M.NodeMap.meaning map.now) }
     ensures bounded { Bounded s.now result }
@@ -98,41 +91,39 @@ pub(crate) fn look<M: NodeMap, L: LabelStore>(map: &M, store: &L, s: &[u8]) -> P
 {
     let _ = map.count();
     let mut node = 0;
-    let mut from = 0;
+    let mut rest = s;
     let mut moves = 0;
     loop {
-        let rest = &s[from..];
         let i = meet_of(store, node, rest);
-        if i >= rest.len() {
-            return Place::There { node, moves };
-        }
-        let symbol = STEP.branch_symbol(rest[i], i);
-        let below = steps_down(map, node, STEP.steps_to(i) as u32);
-        from += i + 1;
-        moves += below.moves;
-        if below.missing > 0 {
-            let gap = Gap {
-                node: below.node,
-                missing: below.missing,
-                symbol,
-                from,
+        let Some(&byte) = rest.get(i) else {
+            return Place {
+                end: Ok(node),
+                moves,
             };
-            return Place::Lacks { gap, moves };
+        };
+        let symbol = STEP.branch_symbol(byte, i);
+        let below = steps_down(map, node, STEP.steps_to(i) as u32);
+        rest = &rest[i + 1..];
+        moves += below.moves;
+        let gap = Gap {
+            node: below.node,
+            missing: below.missing,
+            symbol,
+            label: rest,
+        };
+        if below.missing > 0 {
+            return Place {
+                end: Err(gap),
+                moves,
+            };
         }
         match child_of(map, below.node, symbol) {
-            Some(v) => {
-                node = v;
-                moves += 1;
-            }
-            None => {
-                let gap = Gap {
-                    node: below.node,
-                    missing: 0,
-                    symbol,
-                    from,
-                };
-                return Place::Lacks { gap, moves };
-            }
+            Some(child) => node = child,
+            None => return Place {
+                end: Err(gap),
+                moves,
+            },
         }
+        moves += 1;
     }
 }

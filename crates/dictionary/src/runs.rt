@@ -1,12 +1,12 @@
-ghost use Rattle.std.specs.Prelude.{◌≡◌, ◌<◌, length, slice_set};
+ghost use Rattle.std.specs.Prelude.{◌≡◌, Err};
 ghost use Rattle.tags.specs.declared.refusal.Refusal.TheVariants.{UnfitParts};
-ghost use Rattle.rules.specs.declared.answers.Answer.TheVariants.{Refused};
 ghost use Rattle.rules.specs.Calls.{Book};
 ghost use Rattle.rules.specs.Runs.{turn, book_after};
 ghost use Rattle.dictionary.specs.Runs.{buffer_size, request_of, leaves, requests, made, RanAs, RanUnfit};
 
 use crate::calls::DictionaryCalls;
 use rules::answers::{Answer, Call};
+use tags::refusal::Refusal;
 
 // How many bytes long a call's buffer is.
 fn buffer_size<V: Copy>(call: &Call<'_, V>) -> usize
@@ -23,7 +23,7 @@ pub fn perform<D: DictionaryCalls>(
     d: &mut D,
     call: &Call<'_, D::Value>,
     buffer: &mut [u8],
-) -> Answer<D::Value>
+) -> Result<Answer<D::Value>, Refusal>
     ensures answer { (b : Book D.Value) → D.DictionaryCalls.shows d.old b
         → result ≡ (turn b (request_of call.now buffer.old)).answer }
     ensures next { (b : Book D.Value) → D.DictionaryCalls.shows d.old b
@@ -32,42 +32,16 @@ pub fn perform<D: DictionaryCalls>(
         → buffer.new ≡ leaves b call.now buffer.old }
     ensures stays { D.DictionaryCalls.extent d.new ≡ D.DictionaryCalls.extent d.old }
     ensures unfit { D.DictionaryCalls.unfit d.old
-        → (result ≡ Refused UnfitParts) × (d.new ≡ d.old) × (buffer.new ≡ buffer.old) }
+        → (result ≡ Err UnfitParts) × (d.new ≡ d.old) × (buffer.new ≡ buffer.old) }
 {
-    match call {
-        Call::Enter { tag, value } => match d.enter(tag, *value) {
-            Ok(ticket) => Answer::Entered(ticket),
-            Err(why) => Answer::Refused(why),
-        },
-        Call::Change { tag, value } => match d.change(tag, *value) {
-            Ok(ticket) => Answer::Changed(ticket),
-            Err(why) => Answer::Refused(why),
-        },
-        Call::Find { tag } => match d.find(tag) {
-            Ok(found) => Answer::Looked(found),
-            Err(why) => Answer::Refused(why),
-        },
-        Call::Strike { tag } => match d.strike(tag) {
-            Ok(ticket) => Answer::Struck(ticket),
-            Err(why) => Answer::Refused(why),
-        },
-        Call::Spell { ticket, buffer: _ } => match d.spell(*ticket, buffer) {
-            Ok(length) => Answer::Spelled(length),
-            Err(why) => Answer::Refused(why),
-        },
-        Call::Double => match d.double() {
-            Ok(room) => Answer::Doubled(room),
-            Err(why) => Answer::Refused(why),
-        },
-    }
-}
-
-// Writes an answer into its place.
-fn set_answer<V: Copy>(answers: &mut [Answer<V>], i: usize, answer: Answer<V>)
-    requires { i < length answers.old }
-    ensures { answers.new ≡ slice_set answers.old i answer }
-{
-    answers[i] = answer;
+    Ok(match call {
+        Call::Enter { tag, value } => Answer::Entered(d.enter(tag, *value)?),
+        Call::Change { tag, value } => Answer::Changed(d.change(tag, *value)?),
+        Call::Find { tag } => Answer::Looked(d.find(tag)?),
+        Call::Strike { tag } => Answer::Struck(d.strike(tag)?),
+        Call::Spell { ticket, buffer: _ } => Answer::Spelled(d.spell(*ticket, buffer)?),
+        Call::Double => Answer::Doubled(d.double()?),
+    })
 }
 
 // Any list of calls on a dictionary, in order: each answer in its place, each spell on the next bytes of the memory. A call
@@ -75,7 +49,7 @@ fn set_answer<V: Copy>(answers: &mut [Answer<V>], i: usize, answer: Answer<V>)
 pub fn run<D: DictionaryCalls>(
     d: &mut D,
     calls: &[Call<'_, D::Value>],
-    answers: &mut [Answer<D::Value>],
+    answers: &mut [Result<Answer<D::Value>, Refusal>],
     memory: &mut [u8],
 )
     ensures ran { (b : Book D.Value) → D.DictionaryCalls.shows d.old b
@@ -88,11 +62,11 @@ pub fn run<D: DictionaryCalls>(
 {
     let count = calls.len().min(answers.len());
     let mut from = 0;
-    for i in 0..count {
-        let call = &calls[i];
+    // By its place: no contract says what a loop over `zip` with `iter_mut` leaves in the answers, and a loop over the
+    // answers alone would fetch each call by hand.
+    for (i, call) in calls[..count].iter().enumerate() {
         let size = buffer_size(call).min(memory.len() - from);
-        let answer = perform(d, call, &mut memory[from..from + size]);
-        set_answer(answers, i, answer);
+        answers[i] = perform(d, call, &mut memory[from..from + size]);
         from += size;
     }
 }

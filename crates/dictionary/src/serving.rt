@@ -1,143 +1,136 @@
-ghost use Rattle.std.specs.Prelude.{◌≡◌, true, false, None, Err, slice_index_or};
+ghost use Rattle.std.specs.Prelude.{◌≡◌, ◌≤◌, None, Ok, Err, slice_index_or};
 ghost use Rattle.tags.specs.declared.refusal.Refusal.TheVariants.{UnfitParts};
 ghost use Rattle.rules.specs.declared.step.Step.TheVariants.{By32};
 ghost use Rattle.rules.specs.Calls.{Book, strike as strike_in};
 ghost use Rattle.parts.specs.Maps.{MapFacts};
-ghost use Rattle.dictionary.specs.Shows.{Shows, extent_of};
+ghost use Rattle.dictionary.specs.Shows.{Shows, extent_of, held_with};
+ghost use Rattle.dictionary.specs.Growth.{room_answer};
 
 use crate::calls::DictionaryCalls;
 use crate::climbing::{climb, is_ticket};
-use crate::descent::{Place, look};
+use crate::descent::look;
 use crate::dictionary::Dictionary;
 use crate::growth::grow;
 use parts::map::NodeMap;
 use parts::shelf::Shelf;
 use parts::store::LabelStore;
-use rules::answers::Found;
+use rules::answers::{Found, Held};
 use tags::refusal::Refusal;
-use tags::tag::Spelled;
+use tags::tag::Tag;
 
-// The value at a place; none also where there is no such place.
-fn value_at<S: Shelf>(shelf: &S, n: u32) -> Option<S::Value>
-    ensures { result ≡ slice_index_or (S.Shelf.meaning shelf.now) n None }
+// The row with the ticket, where a value lies at that place.
+#[tactic(auto, unfolding(parts::specs::Shelves::get_answer))]
+fn held_at<S: Shelf>(shelf: &S, ticket: u32) -> Option<Held<S::Value>>
+    ensures { result ≡ held_with ticket (slice_index_or (S.Shelf.meaning shelf.now) ticket None) }
 {
-    match shelf.get(n) {
-        Ok(value) => value,
-        Err(_) => None,
-    }
+    let value = shelf.get(ticket).unwrap_or(None)?;
+    Some(Held { ticket, value })
 }
 
 impl<M: NodeMap, L: LabelStore, S: Shelf> Dictionary<M, L, S> {
     // The ticket of the row that holds a value for the tag. What holds of every node map is told with the count, and
     // here with the answer.
     fn live(&self, tag: &[u8]) -> Result<u32, Refusal>
-        ensures answer { self.now.fit ≡ true → (b : Book S.Value) → Shows (M.NodeMap.meaning self.now.map) (L.LabelStore.meaning self.now.store) (S.Shelf.meaning self.now.shelf) b → result ≡ (strike_in b tag.now).answer }
-        ensures facts { MapFacts By32 (M.NodeMap.meaning self.now.map) }
-        ensures unfit { self.now.fit ≡ false → result ≡ Err UnfitParts }
+        ensures answer { self.now.opened ≡ Ok tt → (b : Book S.Value) → Shows (M.NodeMap.meaning self.now.parts.map) (L.LabelStore.meaning self.now.parts.store) (S.Shelf.meaning self.now.parts.shelf) b → result ≡ (strike_in b tag.now).answer }
+        ensures facts { MapFacts By32 (M.NodeMap.meaning self.now.parts.map) }
+        ensures unfit { self.now.opened ≡ Err UnfitParts → result ≡ Err UnfitParts }
     {
-        let _ = self.map.count();
+        let _ = self.parts.map.count();
         let found = self.find(tag)?;
-        match found {
-            Found::Held {
-                ticket,
-                value: _,
-                moves: _,
-            } => Ok(ticket),
-            Found::Absent { moves: _ } => Err(Refusal::NoLiveRow),
+        let row = found.held.ok_or(Refusal::NoLiveRow)?;
+        Ok(row.ticket)
+    }
+
+    // Whether there is room for so many nodes more and for the label. What holds of every node map is told here.
+    fn check_room(&self, nodes: u32, label: &[u8]) -> Result<(), Refusal>
+        requires { nodes ≤ 7 }
+        ensures answer { result ≡ room_answer (M.NodeMap.meaning self.now.parts.map) (L.LabelStore.meaning self.now.parts.store) nodes label.now }
+        ensures facts { MapFacts By32 (M.NodeMap.meaning self.now.parts.map) }
+    {
+        if self.parts.map.count() + nodes > self.parts.map.room() {
+            return Err(Refusal::NoNodeRoom);
         }
+        if self.parts.store.total() as usize + label.len() > self.parts.store.byte_room() as usize {
+            return Err(Refusal::NoByteRoom);
+        }
+        Ok(())
     }
 }
 
 impl<M: NodeMap, L: LabelStore, S: Shelf> DictionaryCalls for Dictionary<M, L, S> {
     type Value = S::Value;
 
-    ghost shows = { λ d b. (d.fit ≡ true) × Shows (M.NodeMap.meaning d.map) (L.LabelStore.meaning d.store) (S.Shelf.meaning d.shelf) b };
+    ghost shows = { λ d b. (d.opened ≡ Ok tt) × Shows (M.NodeMap.meaning d.parts.map) (L.LabelStore.meaning d.parts.store) (S.Shelf.meaning d.parts.shelf) b };
 
-    ghost unfit = { λ d. d.fit ≡ false };
+    ghost unfit = { λ d. d.opened ≡ Err UnfitParts };
 
-    ghost extent = { λ d. extent_of (L.LabelStore.meaning d.store) (S.Shelf.meaning d.shelf) };
+    ghost extent = { λ d. extent_of (L.LabelStore.meaning d.parts.store) (S.Shelf.meaning d.parts.shelf) };
 
     fn enter(&mut self, tag: &[u8], value: S::Value) -> Result<u32, Refusal> {
-        if !self.fit {
-            return Err(Refusal::UnfitParts);
-        }
-        let form = Spelled::from_bytes(tag)?;
-        let nodes = self.map.count();
+        self.opened?;
+        let tag = Tag::try_from(tag)?;
+        let form = tag.spelled();
         let s = form.bytes();
-        if self.store.count() == 0 {
-            if s.len() > self.store.byte_room() as usize {
-                return Err(Refusal::NoByteRoom);
-            }
-            let _ = self.store.append(s, 0);
-            let _ = self.shelf.put(0, value);
+        if self.parts.store.count() == 0 {
+            self.check_room(0, s)?;
+            let _ = self.parts.store.append(s, 0);
+            let _ = self.parts.shelf.put(0, value);
             return Ok(0);
         }
-        match look(&self.map, &self.store, s) {
-            Place::There { node, moves: _ } => match value_at(&self.shelf, node) {
-                Some(_) => Err(Refusal::RowHolds),
-                None => {
-                    let _ = self.shelf.put(node, value);
-                    Ok(node)
-                }
+        let node = match look(&self.parts.map, &self.parts.store, s).end {
+            Ok(node) => match held_at(&self.parts.shelf, node) {
+                Some(_) => return Err(Refusal::RowHolds),
+                None => node,
             },
-            Place::Lacks { gap, moves: _ } => {
-                if nodes + gap.missing + 1 > self.map.room() {
-                    return Err(Refusal::NoNodeRoom);
-                }
-                if self.store.total() as usize + (s.len() - gap.from)
-                    > self.store.byte_room() as usize
-                {
-                    return Err(Refusal::NoByteRoom);
-                }
-                let ticket = grow(&mut self.map, &mut self.store, gap, s);
-                let _ = self.shelf.put(ticket, value);
-                Ok(ticket)
+            Err(gap) => {
+                self.check_room(gap.missing + 1, gap.label)?;
+                grow(&mut self.parts.map, &mut self.parts.store, gap)
             }
-        }
+        };
+        let _ = self.parts.shelf.put(node, value);
+        Ok(node)
     }
 
     fn change(&mut self, tag: &[u8], value: S::Value) -> Result<u32, Refusal> {
         let ticket = self.live(tag)?;
-        let _ = self.shelf.put(ticket, value);
+        let _ = self.parts.shelf.put(ticket, value);
         Ok(ticket)
     }
 
     fn strike(&mut self, tag: &[u8]) -> Result<u32, Refusal> {
         let ticket = self.live(tag)?;
-        let _ = self.shelf.clear(ticket);
+        let _ = self.parts.shelf.clear(ticket);
         Ok(ticket)
     }
 
     fn find(&self, tag: &[u8]) -> Result<Found<S::Value>, Refusal> {
-        if !self.fit {
-            return Err(Refusal::UnfitParts);
+        self.opened?;
+        let tag = Tag::try_from(tag)?;
+        let form = tag.spelled();
+        if self.parts.store.count() == 0 {
+            return Ok(Found {
+                held: None,
+                moves: 0,
+            });
         }
-        let form = Spelled::from_bytes(tag)?;
-        if self.store.count() == 0 {
-            return Ok(Found::Absent { moves: 0 });
-        }
-        match look(&self.map, &self.store, form.bytes()) {
-            Place::There { node, moves } => match value_at(&self.shelf, node) {
-                Some(value) => Ok(Found::Held {
-                    ticket: node,
-                    value,
-                    moves,
-                }),
-                None => Ok(Found::Absent { moves }),
-            },
-            Place::Lacks { gap: _, moves } => Ok(Found::Absent { moves }),
-        }
+        let place = look(&self.parts.map, &self.parts.store, form.bytes());
+        let held = match place.end {
+            Ok(ticket) => held_at(&self.parts.shelf, ticket),
+            Err(_) => None,
+        };
+        Ok(Found {
+            held,
+            moves: place.moves,
+        })
     }
 
     fn spell(&self, ticket: u32, buffer: &mut [u8]) -> Result<usize, Refusal> {
-        if !self.fit {
-            return Err(Refusal::UnfitParts);
-        }
-        if !is_ticket(&self.map, &self.store, ticket) {
+        self.opened?;
+        if !is_ticket(&self.parts.map, &self.parts.store, ticket) {
             return Err(Refusal::NoSuchTicket);
         }
         let mut word = [0; 201];
-        let from = climb(&self.map, &self.store, ticket, &mut word).min(200);
+        let from = climb(&self.parts.map, &self.parts.store, ticket, &mut word).min(200);
         let n = 200 - from;
         if buffer.len() < n {
             return Err(Refusal::ShortBuffer);
@@ -147,12 +140,7 @@ impl<M: NodeMap, L: LabelStore, S: Shelf> DictionaryCalls for Dictionary<M, L, S
     }
 
     fn double(&mut self) -> Result<u32, Refusal> {
-        if !self.fit {
-            return Err(Refusal::UnfitParts);
-        }
-        match self.map.double() {
-            Ok(room) => Ok(room),
-            Err(fault) => Err(Refusal::NoNextRoom(fault)),
-        }
+        self.opened?;
+        self.parts.map.double().map_err(Refusal::NoNextRoom)
     }
 }

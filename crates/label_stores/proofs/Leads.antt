@@ -1,17 +1,16 @@
 -- labels led by their lengths, before and after one is written behind them
 use Rattle.std.proofs.Common.{◌≡◌, ℕ, zero, suc, ◌+◌, ◌-◌, ◌*◌, ◌/◌, ◌%◌, ◌<◌, ◌≤◌, eqb, List, [], ◌∷◌, ◌++◌, length, get_or, take, drop, set, sym, refl, ap, ◌∙◌, subst, ap₂, ⊎_elim, add-one, arith}
-use lib.Seq.{paste}
 use Rattle.std.specs.List.{between}
-use Rattle.std.proofs.lemmas.List.{length-take-le, length-append, get_or_append_left, get_or-take, drop-drop, get_or-set_same, get_or-set_other, set_split, append_assoc}
-use Rattle.std.proofs.lemmas.List.Edits.{paste-paste, get_or-between, length-between}
+use Rattle.std.proofs.lemmas.List.{length-take-le, length-append, get_or_append_left, get_or-take, drop-drop, get_or-set_same, get_or-set_other}
+use Rattle.std.proofs.lemmas.List.Edits.{get_or-between}
 use Rattle.std.proofs.lemmas.Slice.{between_is}
-use Rattle.std.proofs.lemmas.List.FromFn.{length-map-range_with_len, get_or-map-range_with_len, map-range_with_len_more}
+use Rattle.std.proofs.lemmas.List.FromFn.{map-range_with_len_more}
 use Rattle.std.proofs.lemmas.Bool.{eq-eqb, ne_eqb, cond-true, cond-false, cases_eq, cases_lt}
 use Rattle.rules.specs.Tree.{bytes_in}
 use Rattle.parts.specs.Stores.{longest}
 use Rattle.label_stores.specs.Spans.{written}
 use Rattle.label_stores.specs.Leads.{end_from, head_at, led_span, grouped_labels, GroupsAt, ShortLengths, led, noted}
-use Rattle.label_stores.proofs.Spans.{bytes_none, bytes_more, map_same, kept_before, read_back}
+use Rattle.label_stores.proofs.Spans.{bytes_more, map_same, kept_before, read_back}
 
 pub head_more : (bytes : List ℕ) (v : ℕ) → head_at bytes (v + 1) ≡ end_from bytes (head_at bytes v)
 head_more bytes v = ap (λ (k : ℕ). head_at bytes k) (add-one v)
@@ -33,23 +32,9 @@ end_before bytes v n h =
     let z : v + 1 + (n - (v + 1)) ≡ n = omega arith in
     subst (λ (k : ℕ). end_from bytes (head_at bytes v) ≤ head_at bytes k) z (end_by bytes v (n - (v + 1)))
 
--- the labels of a grouped store
-pub grouped_count : (bytes : List ℕ) (n : ℕ) → length (grouped_labels bytes n) ≡ n
-grouped_count bytes n = length-map-range_with_len (led_span bytes) 0 n
-
-pub grouped_label : (bytes : List ℕ) (n v : ℕ) → v < n → get_or (grouped_labels bytes n) v [] ≡ led_span bytes v
-grouped_label bytes n v h = get_or-map-range_with_len (led_span bytes) 0 n v v [] h (omega arith)
-
-pub grouped_short : (bytes : List ℕ) (n v : ℕ) → head_at bytes n ≤ length bytes → ShortLengths bytes n → v < n → length (get_or (grouped_labels bytes n) v []) ≤ longest
-grouped_short bytes n v h o l =
-    let e : length (get_or (grouped_labels bytes n) v []) ≡ end_from bytes (head_at bytes v) - (head_at bytes v + 1)
-    = ap length (grouped_label bytes n v l) ∙ length-between bytes (head_at bytes v + 1) (end_from bytes (head_at bytes v)) (omega (arith, end_before bytes v n l)) in
-    omega (arith, o v l)
-
-pub grouped_none : (bytes : List ℕ) (n t : ℕ) → n ≡ 0 → t ≡ 0 → (head_at bytes n ≡ t + n) × (t ≡ bytes_in (grouped_labels bytes n))
-grouped_none bytes n t z w =
-    let e : head_at bytes n ≡ 0 = ap (λ (m : ℕ). head_at bytes m) z in
-    (omega arith, w ∙ sym (ap (λ (m : ℕ). bytes_in (grouped_labels bytes m)) z ∙ bytes_none))
+-- a label ends within the bytes in which a later one's length stands
+pub end_within : (bytes : List ℕ) (head v n : ℕ) → head ≡ head_at bytes v → v < n → head_at bytes n ≤ length bytes → end_from bytes head ≤ length bytes
+end_within bytes head v n e h l = rw e (omega (arith, end_before bytes v n h))
 
 byte_before : (bytes part : List ℕ) (at i : ℕ) → at ≤ length bytes → i < at → get_or (written bytes at part) i 0 ≡ get_or bytes i 0
 byte_before bytes part at i h l =
@@ -58,17 +43,6 @@ byte_before bytes part at i h l =
     get_or_append_left (take at bytes ++ take (length part) part) (drop (at + length part) bytes) 0 i (omega arith)
     ∙ get_or_append_left (take at bytes) (take (length part) part) 0 i (omega arith)
     ∙ get_or-take at bytes i 0 l
-
--- a byte and then a part are one part
-pub set_written : (bytes label : List ℕ) (at : ℕ) → at < length bytes → written (set bytes at (length label)) (at + 1) label ≡ led bytes at label
-set_written bytes label at h =
-    let k : 1 + length label ≡ suc (length label) = omega arith in
-    ap (λ (x : List ℕ). written x (at + 1) label)
-    (set_split bytes at (length label) h
-    ∙ sym (append_assoc (take at bytes) (length label ∷ []) (drop (suc at) bytes))
-    ∙ ap (λ (i : ℕ). (take at bytes ++ (length label ∷ [])) ++ drop i bytes) (sym (add-one at)))
-    ∙ paste-paste bytes at (length label ∷ []) label 1 (length label) refl refl (omega arith)
-    ∙ ap (λ (i : ℕ). paste bytes at (length label ∷ label) i) k
 
 -- a label written behind n labels
 module _ (bytes label : List ℕ) (at n : ℕ) (inside : at ≤ length bytes) (used : head_at bytes n ≡ at) where

@@ -1,10 +1,10 @@
 -- labels that lie in bytes, before and after one is written behind them
-use Rattle.std.proofs.Common.{◌≡◌, ℕ, zero, suc, ◌+◌, ◌-◌, ◌<◌, ◌≤◌, ltb, List, [], ◌∷◌, ◌++◌, map, length, get_or, take, drop, set, sym, refl, ap, ◌∙◌, subst, ap₂, ⊎_elim, arith}
+use Rattle.std.proofs.Common.{◌≡◌, ℕ, zero, suc, ◌+◌, ◌<◌, ◌≤◌, ltb, List, [], ◌∷◌, ◌++◌, map, length, get_or, take, drop, set, sym, refl, ap, ◌∙◌, subst, ap₂, ⊎_elim, arith}
 use Rattle.std.specs.List.{between, range_with_len}
 use Rattle.std.proofs.lemmas.List.{length-take-le, length-append, take-take, take-append-le, drop_at, take_all, get_or-set_same, get_or-set_other}
-use Rattle.std.proofs.lemmas.List.Edits.{take-paste, length-between}
+use Rattle.std.proofs.lemmas.List.Edits.{take-paste}
 use Rattle.std.proofs.lemmas.Slice.{between_is}
-use Rattle.std.proofs.lemmas.List.FromFn.{length-map-range_with_len, get_or-map-range_with_len, map-range_with_len_more}
+use Rattle.std.proofs.lemmas.List.FromFn.{map-range_with_len_more}
 use Rattle.std.proofs.lemmas.Bool.{lt-ltb, le-ltb, cond-true, cond-false, cases_lt}
 use Rattle.rules.specs.Tree.{bytes_in}
 use Rattle.parts.specs.Stores.{longest}
@@ -43,19 +43,6 @@ read_back bytes part at h =
     ∙ ap (λ (x : List ℕ). drop at x) (take-paste bytes at part (length part) h (omega arith))
     ∙ drop_at (take at bytes) (take (length part) part) at (length-take-le at bytes h)
     ∙ take_all (length part) part (omega arith)
-
--- the labels of a plain store
-pub plain_count : (bytes starts : List ℕ) (n t : ℕ) → length (plain_labels bytes starts n t) ≡ n
-plain_count bytes starts n t = length-map-range_with_len (span_at bytes starts n t) 0 n
-
-pub plain_label : (bytes starts : List ℕ) (n t v : ℕ) → v < n → get_or (plain_labels bytes starts n t) v [] ≡ span_at bytes starts n t v
-plain_label bytes starts n t v h = get_or-map-range_with_len (span_at bytes starts n t) 0 n v v [] h (omega arith)
-
-pub plain_short : (bytes starts : List ℕ) (n t v : ℕ) → t ≤ length bytes → Ordered starts n t → v < n → length (get_or (plain_labels bytes starts n t) v []) ≤ longest
-plain_short bytes starts n t v h o l =
-    let e : length (get_or (plain_labels bytes starts n t) v []) ≡ end_at starts n t v - get_or starts v 0
-    = ap length (plain_label bytes starts n t v l) ∙ length-between bytes (get_or starts v 0) (end_at starts n t v) (omega (arith, (o v l).1)) in
-    omega (arith, (o v l).2)
 
 -- where labels begin and end once one more begins at t
 start_old : (starts : List ℕ) (n t v : ℕ) → v < n → get_or (set starts n t) v 0 ≡ get_or starts v 0
@@ -98,12 +85,6 @@ module _ (bytes starts label : List ℕ) (n t : ℕ) (listed : n < length starts
       let e : bytes_in (plain_labels b (set starts n t) m u) ≡ bytes_in (plain_labels bytes starts n t) + length label
       = ap bytes_in (plain_more b (set starts n t) m u p refl r w) ∙ bytes_more (plain_labels bytes starts n t) label in
       omega arith
-
-pub plain_none : (bytes starts : List ℕ) (n t : ℕ) → n ≡ 0 → t ≡ 0 → t ≡ bytes_in (plain_labels bytes starts n t)
-plain_none bytes starts n t z w = w ∙ sym (ap (λ (m : ℕ). bytes_in (plain_labels bytes starts m t)) z ∙ bytes_none)
-
-pub ordered_none : (starts : List ℕ) (n t : ℕ) → n ≡ 0 → Ordered starts n t
-ordered_none starts n t z v h = absurd (omega arith)
 
 ordered_added : (starts : List ℕ) (n t k : ℕ) → n < length starts → k ≤ longest → Ordered starts n t → Ordered (set starts n t) (n + 1) (t + k)
 ordered_added starts n t k h l o v m =

@@ -30,3 +30,7 @@ grouped_sizes bytes starts = sizes_answer (grouped_takes bytes starts)
 
 abbrev pub new_grouped : (bytes starts : ℕ) → Store
 new_grouped bytes starts = new_where (grouped_takes bytes starts) (bytes - 16 * starts) (16 * starts)
+
+-- memory that is not taken gives no room
+abbrev pub room_where : Bool → ℕ → ℕ
+room_where taken room = cond taken room 0

@@ -8,7 +8,7 @@ const LONGEST: usize = 201;
 
 // How much of its room a store has used.
 #[derive(Clone, Copy)]
-pub(crate) struct Fill {
+pub struct Fill {
     pub(crate) count: u32,
     // The label lengths, added up.
     pub(crate) total: u32,
@@ -39,10 +39,7 @@ impl Fill {
     pub(crate) fn check_append(self, bytes: usize, from: usize) -> Result<(), StoreFault>
         ensures { result ≡ append_check self.count self.places self.total self.room bytes from }
     {
-        if from > bytes {
-            return Err(StoreFault::StartBeyond);
-        }
-        let length = bytes - from;
+        let length = bytes.checked_sub(from).ok_or(StoreFault::StartBeyond)?;
         if length > LONGEST {
             return Err(StoreFault::LabelTooLong);
         }
@@ -56,17 +53,14 @@ impl Fill {
     }
 
     // With one label more, of this length.
-    pub(crate) fn with_label(self, length: u32) -> Fill
+    pub(crate) fn with_label(mut self, length: u32) -> Fill
         requires { (self.count < self.places) × (self.total + length ≤ self.room) }
         ensures count { result.count ≡ self.count + 1 }
         ensures total { result.total ≡ self.total + length }
         ensures rooms { (result.places ≡ self.places) × (result.room ≡ self.room) }
     {
-        Fill {
-            count: self.count + 1,
-            total: self.total + length,
-            places: self.places,
-            room: self.room,
-        }
+        self.count += 1;
+        self.total += length;
+        self
     }
 }

@@ -1,15 +1,13 @@
-ghost use Rattle.std.specs.Prelude.{◌≡◌, ◌+◌, ◌/◌, ◌<◌, ◌≤◌, false, length, is_ok, MatchResult};
-ghost use Rattle.parts.specs.Stores.{append_answer, append_next};
-ghost use Rattle.label_stores.specs.Sizes.{grouped_sizes, new_grouped};
-ghost use Rattle.label_stores.specs.Leads.{head_at, led, noted};
-ghost use Rattle.label_stores.specs.Meaning.{grouped_meaning, grouped_bytes_next, grouped_starts_next, LabelOf, NoLabelAt, FitsLabel, FilledBy};
+ghost use Rattle.std.specs.Prelude.{◌≡◌, ℕ, ◌+◌, ◌-◌, ◌*◌, ◌/◌, ◌<◌, ◌≤◌, List, length};
+ghost use Rattle.label_stores.specs.Sizes.{grouped_takes};
+ghost use Rattle.label_stores.specs.Leads.{end_from, head_at, grouped_labels, led, noted};
+ghost use Rattle.label_stores.specs.Sound.{GroupedSound};
+ghost use Rattle.label_stores.specs.Laws.{grouped_once, grouped_counted, grouped_summed, grouped_short, grouped_empty};
 
 use crate::fill::Fill;
-use crate::labels::{byte_of, meet_of, write};
-pub use crate::memory::GroupedStore;
-use parts::store::{LabelStore, StoreFault};
-use std::mem;
-use tags::refusal::Refusal;
+use crate::labels::write;
+use crate::layout::Layout;
+use crate::lent::LentStore;
 
 const MOST_BYTES: usize = 1_081_344;
 
@@ -18,14 +16,31 @@ const MOST_GROUPS: usize = 2_048;
 // The labels of a group.
 const GROUP: usize = 16;
 
-// Where the length of label `to` stands, from where that of label `from` does.
+// The labels lie one after another, each led by its length in one byte, and each group of 16 has its start in the list.
+pub struct Grouped;
+
+// A label store over lent bytes, in which the labels lie one after another, each led by its length in one byte, and a
+// lent list of the starts of groups of 16 labels.
+pub type GroupedStore<'a> = LentStore<'a, Grouped>;
+
+// Where the label ends whose length stands at a place.
+fn end_of(bytes: &[u8], head: usize) -> usize
+    requires { end_from bytes.now head ≤ length bytes.now }
+    ensures end { result ≡ end_from bytes.now head }
+    ensures within { result ≤ length bytes.now }
+{
+    head + 1 + usize::from(bytes[head])
+}
+
+// Where the length of label `to` stands, from where that of label `from` does. Each is found from the one before, and no
+// index is used: a fold over the range is no plainer.
 fn walk(bytes: &[u8], start: usize, from: usize, to: usize) -> usize
     requires { (start ≡ head_at bytes.now from) × ((from ≤ to) × (head_at bytes.now to ≤ length bytes.now)) }
     ensures { result ≡ head_at bytes.now to }
 {
     let mut head = start;
-    for _v in from..to {
-        head = head + 1 + bytes[head] as usize;
+    for _ in from..to {
+        head = end_of(bytes, head);
     }
     head
 }
@@ -49,126 +64,51 @@ fn note(starts: &mut [u32], v: usize, at: u32)
     }
 }
 
-impl<'a> GroupedStore<'a> {
-    // Whether a store takes memory of these sizes.
-    pub fn check_sizes(bytes: usize, starts: usize) -> Result<(), Refusal>
-        ensures { result ≡ grouped_sizes bytes starts }
-    {
-        if starts < 1 || starts > MOST_GROUPS || bytes <= GROUP * starts || bytes > MOST_BYTES {
-            return Err(Refusal::StoreMemory);
+impl Layout for Grouped {
+    ghost takes = { grouped_takes };
+
+    ghost room = { λ bytes starts. bytes - 16 * starts };
+
+    ghost places = { λ bytes starts. 16 * starts };
+
+    ghost labels = { λ bytes starts n t. grouped_labels bytes n };
+
+    ghost bytes_with = { λ bytes n t label. led bytes (t + n) label };
+
+    ghost starts_with = { λ starts n t. noted starts n (t + n) };
+
+    ghost Sound = { GroupedSound };
+
+    ghost sound_once = { grouped_once };
+
+    ghost counted = { grouped_counted };
+
+    ghost summed = { grouped_summed };
+
+    ghost short = { grouped_short };
+
+    ghost empty = { grouped_empty };
+
+    fn fresh(bytes: usize, starts: usize) -> Option<Fill> {
+        if !(1..=MOST_GROUPS).contains(&starts) || bytes <= GROUP * starts || bytes > MOST_BYTES {
+            return None;
         }
-        Ok(())
+        let places = GROUP * starts;
+        Some(Fill::new(places as u32, (bytes - places) as u32))
     }
 
-    // A store with no labels. Made of memory that it does not take, it has no places and byte room 0.
-    pub fn new(bytes: &'a mut [u8], starts: &'a mut [u32]) -> GroupedStore<'a>
-        ensures meaning { grouped_meaning result ≡ new_grouped (length bytes.old) (length starts.old) }
-        ensures bytes { result.bytes.now ≡ bytes.old }
-        ensures starts { result.starts.now ≡ starts.old }
-        ensures lenders { (result.bytes.ghost_name ≡ bytes.entry.ghost_name) × (result.starts.ghost_name ≡ starts.entry.ghost_name) }
-    {
-        let fill = match GroupedStore::check_sizes(bytes.len(), starts.len()) {
-            Ok(()) => {
-                let places = GROUP * starts.len();
-                Fill::new(places as u32, (bytes.len() - places) as u32)
-            }
-            Err(_) => Fill::new(0, 0),
-        };
-        GroupedStore {
-            bytes,
-            starts,
-            fill,
-        }
+    fn span<'a>(bytes: &'a [u8], starts: &[u32], _fill: Fill, v: u32) -> &'a [u8] {
+        let v = v as usize;
+        let group = v / GROUP;
+        let head = walk(bytes, starts[group] as usize, GROUP * group, v);
+        let end = end_of(bytes, head);
+        &bytes[head + 1..end]
     }
 
-    // The bytes of label v.
-    fn label(&self, v: u32) -> Result<&[u8], StoreFault>
-        ensures { MatchResult result (λ label. LabelOf (grouped_meaning self.now) v label.now) (λ fault. NoLabelAt (grouped_meaning self.now) v fault) }
-    {
-        let Fill { count, .. } = self.fill;
-        if v >= count {
-            return Err(StoreFault::NoLabel);
-        }
-        let group = v as usize / GROUP;
-        let head = walk(
-            self.bytes,
-            self.starts[group] as usize,
-            GROUP * group,
-            v as usize,
-        );
-        let start = head + 1;
-        let end = start + self.bytes[head] as usize;
-        Ok(&self.bytes[start..end])
-    }
-
-    // One label more.
-    fn add(&mut self, label: &[u8])
-        requires { FitsLabel self.old.fill label.now }
-        ensures bytes { self.new.bytes.now ≡ led self.old.bytes.now (self.old.fill.total + self.old.fill.count) label.now }
-        ensures starts { self.new.starts.now ≡ noted self.old.starts.now self.old.fill.count (self.old.fill.total + self.old.fill.count) }
-        ensures fill { FilledBy label.now self.old.fill self.new.fill }
-        ensures lenders { (self.new.bytes.ghost_name ≡ self.old.bytes.ghost_name) × (self.new.starts.ghost_name ≡ self.old.starts.ghost_name) }
-    {
-        let GroupedStore {
-            bytes,
-            starts,
-            fill,
-        } = mem::replace(self, GroupedStore::new(&mut [], &mut []));
+    fn lay(bytes: &mut [u8], starts: &mut [u32], fill: Fill, label: &[u8]) -> Fill {
         let head = fill.total + fill.count;
         lead(bytes, head as usize, label);
         note(starts, fill.count as usize, head);
-        *self = GroupedStore {
-            bytes,
-            starts,
-            fill: fill.with_label(label.len() as u32),
-        };
-    }
-}
-
-impl LabelStore for GroupedStore<'_> {
-    ghost meaning = { grouped_meaning };
-
-    fn count(&self) -> u32 {
-        self.fill.count
-    }
-
-    fn total(&self) -> u32 {
-        self.fill.total
-    }
-
-    fn byte_room(&self) -> u32 {
-        self.fill.room
-    }
-
-    fn places(&self) -> u32 {
-        self.fill.places
-    }
-
-    fn append(&mut self, s: &[u8], from: usize) -> Result<(), StoreFault>
-        ensures answer { result ≡ append_answer (grouped_meaning self.old) s.now from }
-        ensures next { grouped_meaning self.new ≡ append_next (grouped_meaning self.old) s.now from }
-        ensures kept { is_ok result ≡ false → self.new ≡ self.old }
-        ensures bytes { self.new.bytes.now ≡ grouped_bytes_next self.old s.now from }
-        ensures starts { self.new.starts.now ≡ grouped_starts_next self.old s.now from }
-        ensures lenders { (self.new.bytes.ghost_name ≡ self.old.bytes.ghost_name) × (self.new.starts.ghost_name ≡ self.old.starts.ghost_name) }
-    {
-        self.fill.check_append(s.len(), from)?;
-        self.add(&s[from..]);
-        Ok(())
-    }
-
-    fn length(&self, v: u32) -> Result<usize, StoreFault> {
-        let label = self.label(v)?;
-        Ok(label.len())
-    }
-
-    fn byte(&self, v: u32, i: usize) -> Result<u8, StoreFault> {
-        let label = self.label(v)?;
-        byte_of(label, i)
-    }
-
-    fn meet(&self, v: u32, s: &[u8], from: usize) -> Result<usize, StoreFault> {
-        let label = self.label(v)?;
-        meet_of(label, s, from)
+        fill.with_label(label.len() as u32)
     }
 }

@@ -13,7 +13,9 @@ pub(crate) fn write(bytes: &mut [u8], at: usize, part: &[u8])
     bytes[at..at + part.len()].copy_from_slice(part);
 }
 
-// How many leading bytes agree.
+// How many leading bytes agree. A loop over places, since this is what finding a tag does most: with `zip` and
+// `take_while` a find takes 7 % more instructions (1,134 for 1,056, at 5,000 tags), and with `find` over the places 9 %,
+// where 2 % more is the bar.
 pub(crate) fn shared_front(a: &[u8], b: &[u8]) -> usize
     ensures { result ≡ shared a.now b.now }
 {
@@ -30,18 +32,13 @@ pub(crate) fn shared_front(a: &[u8], b: &[u8]) -> usize
 pub(crate) fn byte_of(label: &[u8], i: usize) -> Result<u8, StoreFault>
     ensures { result ≡ byte_check label.now i }
 {
-    if i >= label.len() {
-        return Err(StoreFault::NoByte);
-    }
-    Ok(label[i])
+    label.get(i).copied().ok_or(StoreFault::NoByte)
 }
 
 // How many leading bytes of a label and of s from a place on agree.
 pub(crate) fn meet_of(label: &[u8], s: &[u8], from: usize) -> Result<usize, StoreFault>
     ensures { result ≡ meet_check label.now s.now from }
 {
-    if from > s.len() {
-        return Err(StoreFault::StartBeyond);
-    }
-    Ok(shared_front(&s[from..], label))
+    let rest = s.get(from..).ok_or(StoreFault::StartBeyond)?;
+    Ok(shared_front(rest, label))
 }

@@ -3,7 +3,8 @@
 mod fill;
 pub mod grouped;
 mod labels;
-mod memory;
+mod layout;
+pub mod lent;
 pub mod plain;
 #[cfg(test)]
 mod tests;

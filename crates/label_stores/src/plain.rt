@@ -1,133 +1,67 @@
-ghost use Rattle.std.specs.Prelude.{◌≡◌, false, length, is_ok, MatchResult, slice_set};
-ghost use Rattle.parts.specs.Stores.{append_answer, append_next};
-ghost use Rattle.label_stores.specs.Sizes.{plain_sizes, new_plain};
-ghost use Rattle.label_stores.specs.Spans.{written};
-ghost use Rattle.label_stores.specs.Meaning.{plain_meaning, plain_bytes_next, plain_starts_next, LabelOf, NoLabelAt, FitsLabel, FilledBy};
+ghost use Rattle.std.specs.Prelude.{ℕ, List, slice_set};
+ghost use Rattle.label_stores.specs.Sizes.{plain_takes};
+ghost use Rattle.label_stores.specs.Spans.{written, plain_labels};
+ghost use Rattle.label_stores.specs.Sound.{PlainSound};
+ghost use Rattle.label_stores.specs.Laws.{plain_once, plain_counted, plain_summed, plain_short, plain_empty};
 
 use crate::fill::Fill;
-use crate::labels::{byte_of, meet_of, write};
-pub use crate::memory::PlainStore;
-use parts::store::{LabelStore, StoreFault};
-use std::mem;
-use tags::refusal::Refusal;
+use crate::labels::write;
+use crate::layout::Layout;
+use crate::lent::LentStore;
 
 const MOST_BYTES: usize = 1_048_576;
 
 const MOST_STARTS: usize = 32_768;
 
-impl<'a> PlainStore<'a> {
-    // Whether a store takes memory of these sizes.
-    pub fn check_sizes(bytes: usize, starts: usize) -> Result<(), Refusal>
-        ensures { result ≡ plain_sizes bytes starts }
-    {
-        if bytes < 1 || bytes > MOST_BYTES || starts < 1 || starts > MOST_STARTS {
-            return Err(Refusal::StoreMemory);
-        }
-        Ok(())
+// The labels lie one after another, and each has its start in the list.
+pub struct Plain;
+
+// A label store over lent bytes, in which the labels lie one after another, and a lent list of their starts.
+pub type PlainStore<'a> = LentStore<'a, Plain>;
+
+impl Layout for Plain {
+    ghost takes = { plain_takes };
+
+    ghost room = { λ bytes starts. bytes };
+
+    ghost places = { λ bytes starts. starts };
+
+    ghost labels = { plain_labels };
+
+    ghost bytes_with = { λ bytes n t label. written bytes t label };
+
+    ghost starts_with = { slice_set };
+
+    ghost Sound = { PlainSound };
+
+    ghost sound_once = { plain_once };
+
+    ghost counted = { plain_counted };
+
+    ghost summed = { plain_summed };
+
+    ghost short = { plain_short };
+
+    ghost empty = { plain_empty };
+
+    fn fresh(bytes: usize, starts: usize) -> Option<Fill> {
+        let taken = (1..=MOST_BYTES).contains(&bytes) && (1..=MOST_STARTS).contains(&starts);
+        taken.then(|| Fill::new(starts as u32, bytes as u32))
     }
 
-    // A store with no labels. Made of memory that it does not take, it has no places and byte room 0.
-    pub fn new(bytes: &'a mut [u8], starts: &'a mut [u32]) -> PlainStore<'a>
-        ensures meaning { plain_meaning result ≡ new_plain (length bytes.old) (length starts.old) }
-        ensures bytes { result.bytes.now ≡ bytes.old }
-        ensures starts { result.starts.now ≡ starts.old }
-        ensures lenders { (result.bytes.ghost_name ≡ bytes.entry.ghost_name) × (result.starts.ghost_name ≡ starts.entry.ghost_name) }
-    {
-        let fill = match PlainStore::check_sizes(bytes.len(), starts.len()) {
-            Ok(()) => Fill::new(starts.len() as u32, bytes.len() as u32),
-            Err(_) => Fill::new(0, 0),
-        };
-        PlainStore {
-            bytes,
-            starts,
-            fill,
-        }
-    }
-
-    // The bytes of label v.
-    fn label(&self, v: u32) -> Result<&[u8], StoreFault>
-        ensures { MatchResult result (λ label. LabelOf (plain_meaning self.now) v label.now) (λ fault. NoLabelAt (plain_meaning self.now) v fault) }
-    {
-        let Fill { count, total, .. } = self.fill;
-        if v >= count {
-            return Err(StoreFault::NoLabel);
-        }
-        let start = self.starts[v as usize] as usize;
-        let end = if v + 1 < count {
-            self.starts[v as usize + 1]
+    fn span<'a>(bytes: &'a [u8], starts: &[u32], fill: Fill, v: u32) -> &'a [u8] {
+        let start = starts[v as usize] as usize;
+        let end = if v + 1 < fill.count {
+            starts[v as usize + 1]
         } else {
-            total
+            fill.total
         };
-        Ok(&self.bytes[start..end as usize])
+        &bytes[start..end as usize]
     }
 
-    // One label more.
-    fn add(&mut self, label: &[u8])
-        requires { FitsLabel self.old.fill label.now }
-        ensures bytes { self.new.bytes.now ≡ written self.old.bytes.now self.old.fill.total label.now }
-        ensures starts { self.new.starts.now ≡ slice_set self.old.starts.now self.old.fill.count self.old.fill.total }
-        ensures fill { FilledBy label.now self.old.fill self.new.fill }
-        ensures lenders { (self.new.bytes.ghost_name ≡ self.old.bytes.ghost_name) × (self.new.starts.ghost_name ≡ self.old.starts.ghost_name) }
-    {
-        let PlainStore {
-            bytes,
-            starts,
-            fill,
-        } = mem::replace(self, PlainStore::new(&mut [], &mut []));
+    fn lay(bytes: &mut [u8], starts: &mut [u32], fill: Fill, label: &[u8]) -> Fill {
         write(bytes, fill.total as usize, label);
         starts[fill.count as usize] = fill.total;
-        *self = PlainStore {
-            bytes,
-            starts,
-            fill: fill.with_label(label.len() as u32),
-        };
-    }
-}
-
-impl LabelStore for PlainStore<'_> {
-    ghost meaning = { plain_meaning };
-
-    fn count(&self) -> u32 {
-        self.fill.count
-    }
-
-    fn total(&self) -> u32 {
-        self.fill.total
-    }
-
-    fn byte_room(&self) -> u32 {
-        self.fill.room
-    }
-
-    fn places(&self) -> u32 {
-        self.fill.places
-    }
-
-    fn append(&mut self, s: &[u8], from: usize) -> Result<(), StoreFault>
-        ensures answer { result ≡ append_answer (plain_meaning self.old) s.now from }
-        ensures next { plain_meaning self.new ≡ append_next (plain_meaning self.old) s.now from }
-        ensures kept { is_ok result ≡ false → self.new ≡ self.old }
-        ensures bytes { self.new.bytes.now ≡ plain_bytes_next self.old s.now from }
-        ensures starts { self.new.starts.now ≡ plain_starts_next self.old s.now from }
-        ensures lenders { (self.new.bytes.ghost_name ≡ self.old.bytes.ghost_name) × (self.new.starts.ghost_name ≡ self.old.starts.ghost_name) }
-    {
-        self.fill.check_append(s.len(), from)?;
-        self.add(&s[from..]);
-        Ok(())
-    }
-
-    fn length(&self, v: u32) -> Result<usize, StoreFault> {
-        let label = self.label(v)?;
-        Ok(label.len())
-    }
-
-    fn byte(&self, v: u32, i: usize) -> Result<u8, StoreFault> {
-        let label = self.label(v)?;
-        byte_of(label, i)
-    }
-
-    fn meet(&self, v: u32, s: &[u8], from: usize) -> Result<usize, StoreFault> {
-        let label = self.label(v)?;
-        meet_of(label, s, from)
+        fill.with_label(label.len() as u32)
     }
 }

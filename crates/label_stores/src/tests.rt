@@ -1,43 +1,51 @@
-ghost use Rattle.std.specs.Prelude.{◌≡◌, drop, slice_set};
-ghost use Rattle.label_stores.specs.Spans.{written};
-ghost use Rattle.label_stores.specs.Leads.{led, noted};
+ghost use Rattle.std.specs.Prelude.{◌≡◌, drop};
 ghost use Rattle.label_stores.specs.Meaning.{after_append};
 
-use crate::grouped::GroupedStore;
-use crate::plain::PlainStore;
+mod instances;
+
+use crate::grouped::{Grouped, GroupedStore};
+use crate::layout::Layout;
+use crate::lent::LentStore;
+use crate::plain::{Plain, PlainStore};
 use parts::store::{LabelStore, StoreFault};
 use std::process::Abort;
 use std::test::Fail;
 use tags::refusal::Refusal;
 
+fn sizes<L: Layout>(rt: &impl Abort, cases: [(usize, usize, bool); 6]) {
+    for (bytes, starts, taken) in cases {
+        assert_eq!(rt; LentStore::<L>::check_sizes(bytes, starts).is_ok(), taken);
+    }
+    assert_eq!(rt;
+        LentStore::<L>::check_sizes(0, 0),
+        Err(Refusal::StoreMemory)
+    );
+}
+
 #[test]
 fn plain_sizes(rt: HostRuntime) {
-    for (bytes, starts, taken) in [
+    let cases = [
         (1, 1, true),
         (1_048_576, 32_768, true),
         (0, 1, false),
         (1, 0, false),
         (1_048_577, 1, false),
         (1, 32_769, false),
-    ] {
-        assert_eq!(rt; PlainStore::check_sizes(bytes, starts).is_ok(), taken);
-    }
-    assert_eq!(rt; PlainStore::check_sizes(0, 0), Err(Refusal::StoreMemory));
+    ];
+    sizes::<Plain>(&rt, cases);
 }
 
 #[test]
 fn grouped_sizes(rt: HostRuntime) {
-    for (bytes, starts, taken) in [
+    let cases = [
         (17, 1, true),
         (1_081_344, 2_048, true),
         (16, 1, false),
         (17, 0, false),
         (1_081_345, 2_048, false),
         (1_081_344, 2_049, false),
-    ] {
-        assert_eq!(rt; GroupedStore::check_sizes(bytes, starts).is_ok(), taken);
-    }
-    assert_eq!(rt; GroupedStore::check_sizes(0, 0), Err(Refusal::StoreMemory));
+    ];
+    sizes::<Grouped>(&rt, cases);
 }
 
 // Labels of 0, 1, 200 and 201 bytes of s, which has 202, where the byte room is so many.
@@ -152,29 +160,16 @@ fn meet(rt: HostRuntime) {
 }
 
 // What the lent memory holds once the store is gone.
-fn append_plain(
+fn append_first<L: Layout>(
     bytes: &mut [u8],
     starts: &mut [u32],
     s: &[u8],
     from: usize,
 ) -> Result<(), StoreFault>
-    ensures bytes { bytes.new ≡ after_append result (written bytes.old 0 (drop from s.now)) bytes.old }
-    ensures starts { starts.new ≡ after_append result (slice_set starts.old 0 0) starts.old }
+    ensures bytes { bytes.new ≡ after_append result (L.bytes_with bytes.old 0 0 (drop from s.now)) bytes.old }
+    ensures starts { starts.new ≡ after_append result (L.starts_with starts.old 0 0) starts.old }
 {
-    let mut store = PlainStore::new(bytes, starts);
-    store.append(s, from)
-}
-
-fn append_grouped(
-    bytes: &mut [u8],
-    starts: &mut [u32],
-    s: &[u8],
-    from: usize,
-) -> Result<(), StoreFault>
-    ensures bytes { bytes.new ≡ after_append result (led bytes.old 0 (drop from s.now)) bytes.old }
-    ensures starts { starts.new ≡ after_append result (noted starts.old 0 0) starts.old }
-{
-    let mut store = GroupedStore::new(bytes, starts);
+    let mut store = LentStore::<L>::new(bytes, starts);
     store.append(s, from)
 }
 
@@ -182,10 +177,16 @@ fn append_grouped(
 fn memory(rt: HostRuntime) {
     let mut bytes = [7; 4];
     let mut starts = [9; 2];
-    assert_eq!(rt; append_plain(&mut bytes, &mut starts, b"abc", 1), Ok(()));
+    assert_eq!(rt;
+        append_first::<Plain>(&mut bytes, &mut starts, b"abc", 1),
+        Ok(())
+    );
     assert!(rt; bytes == [b'b', b'c', 7, 7] && starts == [0, 9]);
     let mut bytes = [7; 18];
     let mut starts = [9; 1];
-    assert_eq!(rt; append_grouped(&mut bytes, &mut starts, b"xyz", 1), Ok(()));
+    assert_eq!(rt;
+        append_first::<Grouped>(&mut bytes, &mut starts, b"xyz", 1),
+        Ok(())
+    );
     assert!(rt; bytes[..4] == [2, b'y', b'z', 7][..] && starts == [0]);
 }

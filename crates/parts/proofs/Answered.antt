@@ -1,12 +1,21 @@
 -- the answers of a node map, case by case: what every make of one needs
-use Rattle.std.proofs.Common.{◌≡◌, ℕ, ◌<◌, ◌≤◌, eqb, ltb, List, [], ◌∷◌, Some, None, Ok, Err, Option, Result, sym, ap, ◌∙◌, inl, inr, arith}
-use Rattle.std.proofs.lemmas.Bool.{eq-eqb, ne_eqb, lt-ltb, le-ltb, cases_lt, cond-true, cond-false}
+use Rattle.std.proofs.Common.{◌≡◌, ℕ, ◌<◌, ◌≤◌, true, false, eqb, ltb, List, [], ◌∷◌, is_some, Some, None, Ok, Err, Option, Result, sym, refl, ap, ◌∙◌, inl, inr, arith}
+use Rattle.std.proofs.lemmas.Bool.{true≢false, eq-eqb, ne_eqb, lt-ltb, le-ltb, cases_lt, cond-true, cond-false}
 use Rattle.tags.specs.declared.refusal.MapFault.{MapFault}
 use Rattle.tags.specs.declared.refusal.MapFault.TheVariants.{NoNode, SymbolTooLarge, PairTaken, RoomFull, LastRoom}
 use Rattle.rules.specs.declared.step.Step.{Step}
 use Rattle.rules.specs.Steps.{symbol_count}
 use Rattle.rules.specs.Tree.{Edge, edge_of, child}
 use Rattle.parts.specs.Maps.{Map, count_of, asked, child_answer, add_free, add_answer, with_edge, added, add_next, up_answer, double_answer, double_next}
+
+-- what the test of a found child tells
+pub some_is : (o : Option ℕ) → true ≡ is_some o → (v : ℕ) × (o ≡ Some v)
+some_is (Some v) e = (v, refl)
+some_is None e = absurd (true≢false e)
+
+pub none_is : (o : Option ℕ) → false ≡ is_some o → o ≡ None
+none_is (Some v) e = absurd (true≢false (sym e))
+none_is None e = refl
 
 -- a pair in bounds is asked on
 asked_ok : {A : Type 0} (step : Step) (m : Map) (u c : ℕ) (a : Result A MapFault) → u < count_of m → c < symbol_count step → asked step m u c a ≡ a

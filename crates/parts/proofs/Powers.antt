@@ -1,17 +1,17 @@
 -- memory sizes and rooms of powers of two
-use Rattle.std.proofs.Common.{◌≡◌, ℕ, zero, suc, ◌+◌, ◌-◌, ◌*◌, ◌/◌, ◌%◌, ◌^◌, ◌<◌, ◌≤◌, [], ◌∷◌, Some, None, Option, sym, refl, ap, ◌∙◌, subst, inl, inr, mul-div_cancel, arith, pow_pos}
+use Rattle.std.proofs.Common.{◌≡◌, ℕ, zero, suc, ◌+◌, ◌-◌, ◌*◌, ◌/◌, ◌%◌, ◌^◌, ◌<◌, ◌≤◌, [], ◌∷◌, Some, None, Option, sym, refl, ap, ◌∙◌, subst, inl, inr, mul-div_cancel, ◌≢◌, ◌==◌, arith, pow_pos}
 use native.Mathlib.Nat.{mul-mod_left}
 use Rattle.std.proofs.lemmas.Nat.{div-add-mod'}
 use Rattle.std.proofs.lemmas.Bool.{cases_eq, eq-eqb, ne_eqb}
 use Rattle.parts.specs.Maps.{last_of, Rising}
 use Rattle.parts.specs.Sizes.{power_from, power_for, PowerOf, rooms_after, rooms_to}
 
-pub power_here : (t k n part : ℕ) → 0 < t → n ≡ part * 2 ^ k → power_from t k n part ≡ Some k
+power_here : (t k n part : ℕ) → 0 < t → n ≡ part * 2 ^ k → power_from t k n part ≡ Some k
 unfolding power_from
 power_here zero k n part z e = absurd (omega arith)
 power_here (suc t) k n part z e = rw (eq-eqb n (part * 2 ^ k) e, power_from) refl
 
-pub power_past : (t s k next n part : ℕ) → t ≡ suc s → suc k ≡ next → (n ≡ part * 2 ^ k → ⊥)
+power_past : (t s k next n part : ℕ) → t ≡ suc s → suc k ≡ next → (n ≡ part * 2 ^ k → ⊥)
     → power_from t k n part ≡ power_from s next n part
 unfolding power_from
 power_past t s k next n part e f z = ap (λ (x : ℕ). power_from x k n part) e ∙ one ∙ ap (λ (x : ℕ). power_from s x n part) f
@@ -19,7 +19,7 @@ power_past t s k next n part e f z = ap (λ (x : ℕ). power_from x k n part) e 
     one : power_from (suc s) k n part ≡ power_from s (suc k) n part
     one = rw (ne_eqb n (part * 2 ^ k) z, power_from) refl
 
-pub power_none : (t k n part : ℕ) → t ≡ 0 → power_from t k n part ≡ None
+power_none : (t k n part : ℕ) → t ≡ 0 → power_from t k n part ≡ None
 unfolding power_from
 power_none zero k n part e = refl
 power_none (suc t) k n part e = absurd (omega arith)
@@ -53,21 +53,45 @@ up_to_15 n part None h = λ k a b e. h k a (omega arith) e
 pub power_of : (n part : ℕ) → PowerOf n part (power_for n part)
 power_of n part = up_to_15 n part (power_for n part) (tried 12 4 n part)
 
+-- the first of the numbers tried that fits
+pub power_first : (t k i n part : ℕ) → k ≤ i → i < k + t → n ≡ part * 2 ^ i → ((j : ℕ) → k ≤ j → j < i → n ≢ part * 2 ^ j) → power_from t k n part ≡ Some i
+power_first zero k i n part a b e f = absurd (omega arith)
+power_first (suc t) k i n part a b e f = elim (cases_eq i k) [
+  | inl q ↦ power_here (suc t) k n part (omega arith) (e ∙ ap (λ (x : ℕ). part * 2 ^ x) q) ∙ ap Some (sym q)
+  | inr z ↦ power_past (suc t) t k (suc k) n part refl refl (f k (omega arith) (omega arith)) ∙ power_first t (suc k) i n part (omega arith) (omega arith) e (λ j p q. f j (omega arith) q)
+]
+
+-- none of the numbers tried fits
+pub power_nowhere : (t k n part : ℕ) → ((j : ℕ) → k ≤ j → j < k + t → n ≢ part * 2 ^ j) → power_from t k n part ≡ None
+power_nowhere zero k n part f = power_none 0 k n part refl
+power_nowhere (suc t) k n part f =
+    power_past (suc t) t k (suc k) n part refl refl (f k (omega arith) (omega arith)) ∙ power_nowhere t (suc k) n part (λ j p q. f j (omega arith) (omega arith))
+
 -- how the code tests that n is part * 2 ^ k
 module _ (n part k m : ℕ) (is : m ≡ 2 ^ k) where
-  pub parts_make : n % m ≡ 0 → n / m ≡ part → n ≡ part * 2 ^ k
+  parts_make : n % m ≡ 0 → n / m ≡ part → n ≡ part * 2 ^ k
   parts_make e f =
       let d : n / m * m + n % m ≡ n = div-add-mod' n m in
       let g : n / m * m ≡ part * 2 ^ k = cc in omega arith
 
-  pub parts_whole : n ≡ part * 2 ^ k → n % m ≡ 0
+  parts_whole : n ≡ part * 2 ^ k → n % m ≡ 0
   parts_whole e = let f : n ≡ part * m = cc in ap (λ (x : ℕ). x % m) f ∙ mul-mod_left part m
 
-  pub parts_many : n ≡ part * 2 ^ k → n / m ≡ part
+  parts_many : n ≡ part * 2 ^ k → n / m ≡ part
   parts_many e =
       let f : n ≡ part * m = cc in
       let z : 0 < m = subst (λ (x : ℕ). 0 < x) (sym is) (pow_pos k) in
       ap (λ (x : ℕ). x / m) f ∙ mul-div_cancel part z
+
+  -- the rest decides where it is not 0, else the quotient
+  pub tested : n % m ≡ 0 → (n / 2 ^ k == part) ≡ (n == part * 2 ^ k)
+  tested e = ap (λ (x : ℕ). n / x == part) (sym is) ∙ elim (cases_eq n (part * 2 ^ k)) [
+    | inl f ↦ eq-eqb (n / m) part (parts_many f) ∙ sym (eq-eqb n (part * 2 ^ k) f)
+    | inr z ↦ ne_eqb (n / m) part (λ f. z (parts_make e f)) ∙ sym (ne_eqb n (part * 2 ^ k) z)
+  ]
+
+  pub not_whole : n % m ≢ 0 → (n % m == 0) ≡ (n == part * 2 ^ k)
+  not_whole f = ne_eqb (n % m) 0 f ∙ sym (ne_eqb n (part * 2 ^ k) (λ e. f (parts_whole e)))
 
 pub rooms_next : (capacity : ℕ → ℕ) (k next top : ℕ) → suc k ≡ next → k < top
     → rooms_to capacity k top ≡ capacity (2 ^ next) ∷ rooms_to capacity next top

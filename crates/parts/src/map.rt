@@ -1,15 +1,18 @@
-ghost use Rattle.std.specs.Prelude.{◌≡◌, false, is_ok};
+ghost use Rattle.std.specs.Prelude.{◌≡◌, false, is_ok, Ok};
 ghost use Rattle.rules.specs.declared.step.Step.TheVariants.{By32};
-ghost use Rattle.parts.specs.Maps.{Map, MapFacts, count_of, last_room, child_answer, add_answer, add_next, up_answer, double_answer, double_next};
+ghost use Rattle.parts.specs.Maps.{Map, MapFacts, count_of, asked, last_room, child_answer, add_answer, add_next, up_answer, double_answer, double_next};
 
+use rules::step::Step;
 use tags::refusal::MapFault;
 
 // A node map holds nodes numbered from 0 in order of making, each but 0 below a parent by a symbol, and rooms, one of
-// them current: the number of nodes that there may be. Faults are tested in the order written, and change nothing.
+// them current: the number of nodes that there may be. Faults are tested in the order written, and change nothing. A pair
+// of a parent and a symbol comes as two numbers: a struct would be made for each call, only to be taken apart.
 pub trait NodeMap {
     ghost meaning: { Self → Map };
 
-    // How many nodes there are. What holds of every node map is told here.
+    // How many nodes there are. What holds of every node map is told here, and by no law: an `impl` may prove a law by its
+    // specs alone, and not by the lemmas of its crate.
     fn count(&self) -> u32
         ensures count { result ≡ count_of (meaning self.now) }
         ensures facts { MapFacts By32 (meaning self.now) };
@@ -19,6 +22,19 @@ pub trait NodeMap {
 
     fn last_room(&self) -> u32
         ensures { result ≡ last_room (meaning self.now) };
+
+    // The first two faults of child and add.
+    fn check_pair(&self, u: u32, c: u16) -> Result<(), MapFault>
+        ensures { result ≡ asked By32 (meaning self.now) u c (Ok tt) }
+    {
+        if u >= self.count() {
+            return Err(MapFault::NoNode);
+        }
+        if c >= Step::By32.symbol_count() {
+            return Err(MapFault::SymbolTooLarge);
+        }
+        Ok(())
+    }
 
     // The child of u by the symbol c, or none.
     fn child(&self, u: u32, c: u16) -> Result<Option<u32>, MapFault>

@@ -8,11 +8,12 @@ pub enum ShelfFault {
     NoPlace,
 }
 
-impl ShelfFault {
-    pub fn number(self) -> u8
-        ensures { result ≡ shelf_fault_number self }
-    {
-        match self {
+// Its number.
+impl From<ShelfFault> for u8 {
+    ghost from_gives = { λ fault number. number ≡ shelf_fault_number fault };
+
+    fn from(fault: ShelfFault) -> u8 {
+        match fault {
             ShelfFault::NoPlace => 1,
         }
     }

@@ -17,11 +17,12 @@ pub enum StoreFault {
     NoByte,
 }
 
-impl StoreFault {
-    pub fn number(self) -> u8
-        ensures { result ≡ store_fault_number self }
-    {
-        match self {
+// Its number.
+impl From<StoreFault> for u8 {
+    ghost from_gives = { λ fault number. number ≡ store_fault_number fault };
+
+    fn from(fault: StoreFault) -> u8 {
+        match fault {
             StoreFault::StartBeyond => 1,
             StoreFault::LabelTooLong => 2,
             StoreFault::PlacesUsed => 3,
@@ -37,7 +38,7 @@ impl StoreFault {
 pub trait LabelStore {
     ghost meaning: { Self → Store };
 
-    // How many labels there are. What holds of every label store is told here.
+    // How many labels there are. What holds of every label store is told here, as `NodeMap` tells it.
     fn count(&self) -> u32
         ensures count { result ≡ length (meaning self.now).labels }
         ensures facts { StoreFacts (meaning self.now) };
@@ -52,7 +53,7 @@ pub trait LabelStore {
     fn places(&self) -> u32
         ensures { result ≡ (meaning self.now).places };
 
-    // The bytes of s from a place on become the next label.
+    // The bytes of s from a place on become the next label. The place is tested here, and not by the caller.
     fn append(&mut self, s: &[u8], from: usize) -> Result<(), StoreFault>
         ensures answer { result ≡ append_answer (meaning self.old) s.now from }
         ensures next { meaning self.new ≡ append_next (meaning self.old) s.now from }

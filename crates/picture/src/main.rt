@@ -31,26 +31,28 @@ fn picture(heap: Global, text: &[u8]) -> Result<String, AllocError> {
     let mut lent = [0u8; 14_336];
     let tree = run_list(heap, text, &mut lent)?;
     let mut out = String::new(heap);
-    put_tree(heap, &mut out, &tree)?;
-    put_slots(heap, &mut out, &tree, &lent)?;
+    put_tree(&mut out, &tree)?;
+    put_slots(&mut out, &tree, &lent)?;
     Ok(out)
 }
 
-// Draws the list on the standard input or, where files are named, the list in each.
+// Draws the list on the standard input or, where files are named, the list in each. The program in crates/bench runs
+// lists in the same few lines, and says there why they are not shared.
 fn draw_lists(rt: &HostRuntime) -> anyhow::Result<()> {
     let heap = rt.alloc();
-    let mut named = false;
-    for name in env::args(rt)?.skip(1) {
-        named = true;
-        let text = fs::read(rt, name.as_str())?;
-        let out = picture(heap, &text)?;
+    let draw = |text: &[u8]| -> anyhow::Result<()> {
+        let out = picture(heap, text)?;
         rt.stdout().write_all(out.as_bytes())?;
-    }
-    if !named {
+        Ok(())
+    };
+    let mut names = env::args(rt)?.skip(1).peekable();
+    if names.peek().is_none() {
         let mut text = Vec::new(heap);
         rt.stdin().read_to_end(&mut text)?;
-        let out = picture(heap, &text)?;
-        rt.stdout().write_all(out.as_bytes())?;
+        return draw(&text);
+    }
+    for name in names {
+        draw(&fs::read(rt, name.as_str())?)?;
     }
     Ok(())
 }

@@ -1,152 +1,166 @@
-use crate::drawing::{edge_of, put_edge, put_line};
-use crate::gathering::Tree;
+use crate::gathering::{Edge, Tree};
 use std::alloc::{AllocError, Global};
+use std::fmt;
 
-// The slots in use, six bytes each.
+// The map's bytes have two sets of slots, and one of them is in use.
+#[derive(Clone, Copy)]
+enum Set {
+    First,
+    Second,
+}
+
+impl fmt::Display for Set {
+    fn fmt<W: fmt::Write>(&self, f: &mut fmt::Formatter<W>) -> fmt::Result {
+        match self {
+            Set::First => write!(f, "first"),
+            Set::Second => write!(f, "second"),
+        }
+    }
+}
+
+// The slots in use: so many of a set, six bytes each.
 #[derive(Clone, Copy)]
 struct Table<'a> {
+    set: Set,
     bytes: &'a [u8],
-    second: bool,
     count: usize,
+}
+
+// A slot by its place, and what it holds where it is taken.
+#[derive(Clone, Copy)]
+struct Slot {
+    place: usize,
+    taken: Option<Taken>,
 }
 
 // What a taken slot holds.
 #[derive(Clone, Copy)]
-struct Slot {
+struct Taken {
     quotient: u64,
     displacement: usize,
     node: usize,
 }
 
-// The slots in use with this room, where 14 bytes are lent for each of 1,024 slots. At first 16 slots of the first set
-// are in use, and each doubling goes to the other set.
-fn table_in(lent: &[u8], room: u32) -> Table<'_> {
-    let (first, others) = lent.split_at(lent.len() / 14 * 6);
-    for log in 4u32..10 {
-        if (9u32 << log) / 10 == room {
-            let second = log % 2 == 1;
-            return Table {
-                bytes: if second { others } else { first },
-                second,
-                count: 1 << log,
-            };
-        }
-    }
-    Table {
-        bytes: first,
-        second: false,
-        count: 1_024,
-    }
-}
-
-// The number that a slot's bytes hold, the most significant first.
-fn word_of(bytes: &[u8]) -> u64 {
-    let mut word = 0u64;
-    for byte in bytes {
-        word = (word << 8) | u64::from(*byte);
-    }
-    word
-}
-
-// The fields of a taken slot: behind the mark 13 bits of quotient, 15 of displacement, 15 of number, and 4 zeros.
-fn slot_of(word: u64) -> Option<Slot> {
+// The map's own reader of its slots is private to its crate; this one reads the layout as it is written there.
+// The fields of a word: behind the mark 13 bits of quotient, 15 of displacement, 15 of number, and 4 zeros.
+fn taken_in(word: u64) -> Option<Taken> {
     if word >> 47 == 0 {
         return None;
     }
-    Some(Slot {
+    Some(Taken {
         quotient: (word >> 34) % 8_192,
         displacement: ((word >> 19) % 32_768) as usize,
         node: ((word >> 4) % 32_768) as usize,
     })
 }
 
-// Where a node in slot i would have liked to be.
-fn home_of(table: Table<'_>, i: usize, displacement: usize) -> usize {
-    match i.checked_sub(displacement) {
-        Some(home) => home,
-        None => table.count.saturating_sub(displacement.abs_diff(i)),
+// The number that a slot's bytes hold, the most significant first.
+fn word_of(bytes: &[u8]) -> u64 {
+    bytes
+        .iter()
+        .fold(0, |word, byte| (word << 8) | u64::from(*byte))
+}
+
+impl<'a> Table<'a> {
+    // The slots in use with this room, where 14 bytes are lent for each of 1,024 slots. At first 16 slots of the first set
+    // are in use, and each doubling goes to the other set.
+    fn of(lent: &'a [u8], room: u32) -> Table<'a> {
+        let (first, others) = lent.split_at(lent.len() / 14 * 6);
+        let log = (4u32..10)
+            .find(|log| (9 << *log) / 10 == room)
+            .unwrap_or(10);
+        let (set, bytes) = if log % 2 == 0 {
+            (Set::First, first)
+        } else {
+            (Set::Second, others)
+        };
+        Table {
+            set,
+            bytes,
+            count: 1 << log,
+        }
+    }
+
+    fn slots(&self, heap: Global) -> Result<Vec<Slot>, AllocError> {
+        self.bytes
+            .chunks_exact(6)
+            .take(self.count)
+            .enumerate()
+            .map(|(place, bytes)| Slot {
+                place,
+                taken: taken_in(word_of(bytes)),
+            })
+            .collect(heap)
+    }
+
+    // Where a node in this place would have liked to be.
+    fn home_of(&self, place: usize, displacement: usize) -> usize {
+        place
+            .checked_sub(displacement)
+            .unwrap_or_else(|| self.count.saturating_sub(displacement.abs_diff(place)))
+    }
+
+    // A taken slot with what it holds, and the edge of its node.
+    fn put_taken(
+        &self,
+        out: &mut String,
+        place: usize,
+        taken: Taken,
+        edge: Option<Edge>,
+    ) -> Result<(), AllocError> {
+        let Taken {
+            quotient,
+            displacement,
+            node,
+        } = taken;
+        let home = self.home_of(place, displacement);
+        write!(
+            out,
+            "{place:>9}  {home:>4}  {displacement:>12}  {quotient:>8}  {node:>4}"
+        )?;
+        if let Some(edge) = edge {
+            let parent = edge.parent;
+            write!(out, "  {parent:>6}  {edge}")?;
+        }
+        out.push('\n')
     }
 }
 
-// The slots from one to before another are empty.
-fn put_empty(heap: Global, out: &mut String, from: usize, to: usize) -> Result<(), AllocError> {
-    if from >= to {
-        return Ok(());
-    }
-    let last = to - 1;
-    let run = if from == last {
+// The empty slots from one place to another.
+fn put_empty(out: &mut String, from: usize, to: usize) -> Result<(), AllocError> {
+    let heap = *out.allocator();
+    let places = if from == to {
         format!(in heap; "{from}")?
     } else {
-        format!(in heap; "{from}..{last}")?
+        format!(in heap; "{from}..{to}")?
     };
-    let line = format!(in heap; "{run:>9}  empty")?;
-    put_line(out, &line)
+    writeln!(out, "{places:>9}  empty")
 }
 
-// The slot i with what it holds, and the edge of its node.
-fn put_slot(
-    heap: Global,
-    out: &mut String,
-    tree: &Tree,
-    table: Table<'_>,
-    i: usize,
-    slot: Slot,
-) -> Result<(), AllocError> {
-    let Slot {
-        quotient,
-        displacement,
-        node,
-    } = slot;
-    let home = home_of(table, i, displacement);
-    let fields = format!(in heap;
-        "{i:>9}  {home:>4}  {displacement:>12}  {quotient:>8}  {node:>4}"
-    )?;
-    out.push_str(&fields)?;
-    if let Some(edge) = edge_of(&tree.nodes, node) {
-        let parent = edge.parent;
-        let above = format!(in heap; "  {parent:>6}  ")?;
-        out.push_str(&above)?;
-        put_edge(heap, out, edge)?;
-    }
-    out.push('\n')
-}
-
-fn count_taken(table: Table<'_>) -> usize {
-    let mut taken = 0usize;
-    for bytes in table.bytes.chunks_exact(6).take(table.count) {
-        if slot_of(word_of(bytes)).is_some() {
-            taken = taken.saturating_add(1);
-        }
-    }
-    taken
-}
-
-pub(crate) fn put_slots(
-    heap: Global,
-    out: &mut String,
-    tree: &Tree,
-    lent: &[u8],
-) -> Result<(), AllocError> {
-    let table = table_in(lent, tree.room);
-    let taken = count_taken(table);
-    let count = table.count;
-    let set = if table.second { "second" } else { "first" };
-    let head = format!(in heap;
+pub(crate) fn put_slots(out: &mut String, tree: &Tree, lent: &[u8]) -> Result<(), AllocError> {
+    let table = Table::of(lent, tree.room);
+    let slots = table.slots(*out.allocator())?;
+    let taken = slots.iter().filter(|slot| slot.taken.is_some()).count();
+    let Table { set, count, .. } = table;
+    writeln!(
+        out,
         "The table: {taken} of the {count} slots in use are taken, in the {set} set.\n"
     )?;
-    put_line(out, &head)?;
-    put_line(
+    writeln!(
         out,
-        "     slot  home  displacement  quotient  node  parent  edge",
+        "     slot  home  displacement  quotient  node  parent  edge"
     )?;
-    let mut empty_from = 0;
-    for (i, bytes) in table.bytes.chunks_exact(6).take(table.count).enumerate() {
-        if let Some(slot) = slot_of(word_of(bytes)) {
-            put_empty(heap, out, empty_from, i)?;
-            put_slot(heap, out, tree, table, i, slot)?;
-            empty_from = i.saturating_add(1);
+    for run in slots.chunk_by(|a, b| a.taken.is_none() && b.taken.is_none()) {
+        let (Some(first), Some(last)) = (run.first(), run.last()) else {
+            continue;
+        };
+        match first.taken {
+            Some(taken) => {
+                let edge = tree.root.as_ref().and_then(|root| root.edge_of(taken.node));
+                table.put_taken(out, first.place, taken, edge)?;
+            }
+            None => put_empty(out, first.place, last.place)?,
         }
     }
-    put_empty(heap, out, empty_from, count)?;
     out.push('\n')
 }

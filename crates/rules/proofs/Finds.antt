@@ -7,10 +7,9 @@ use Rattle.tags.specs.declared.refusal.Refusal.{Refusal}
 use Rattle.tags.specs.Tags.{tag_refusal, WellFormed}
 use Rattle.rules.specs.declared.step.Step.{Step}
 use Rattle.rules.specs.declared.answers.Found.{Found}
-use Rattle.rules.specs.declared.answers.Found.TheVariants.{Absent}
 use Rattle.rules.specs.Tree.{moves_of, tree_of}
 use Rattle.rules.specs.Book.{Row, first_row, row_at, nodes, row_bytes, label_bytes, later_row, next_row, absent_moves, row_of, Arrival, arrive, arrive_all, rows_of, arrivals_of, tags_of}
-use Rattle.rules.specs.Calls.{Book, Turn, with_rows, with_value, takes, enter_old, enter_new, enter, on_live_row, find_in, find, double}
+use Rattle.rules.specs.Calls.{Book, absent, Turn, with_rows, with_value, takes, enter_old, enter_new, enter, on_live_row, find_in, find, double}
 use Rattle.rules.specs.Runs.{Request, Enter, Change, Find, Strike, Spell, Double, turn, book_after}
 use Rattle.rules.specs.Laws.{AllWellFormed, Agree, arrived_tags, DescentMatchesBook, Sound, TrueFind, FindsCountMoves}
 use Rattle.rules.proofs.Together.{label_bytes_push}
@@ -136,7 +135,7 @@ module _ {V : Type 0} (law : DescentMatchesBook V) where
     pub agree : Agree book.step (tree_of book.step (tags_of book.rows)) book.rows tag
     agree = rw (tags_arrived book.rows, ← s.rows) at (law book.step (arrivals_of book.rows) (rw (tags_arrived book.rows) s.tags) tag w)
 
-    absent_true : row_of book.rows tag ≡ None → TrueFind book tag (Absent (absent_moves book.step book.rows tag))
+    absent_true : row_of book.rows tag ≡ None → TrueFind book tag (absent (absent_moves book.step book.rows tag))
     absent_true none = elim (cases_eq (length book.rows) 0) [
       | inl e ↦ let z = no_moves book.step book.rows tag e in ((agree.empty e).still ∙ sym z, omega (arith, z))
       | inr n ↦ let a = agree.absent (omega arith) none in (ap moves_of a.ends, a.few)

@@ -6,7 +6,6 @@ use Rattle.tags.specs.declared.refusal.Refusal.TheVariants.{RowHolds, NoLiveRow,
 use Rattle.tags.specs.Tags.{tag_refusal}
 use Rattle.rules.specs.declared.step.Step.{Step}
 use Rattle.rules.specs.declared.answers.Found.{Found}
-use Rattle.rules.specs.declared.answers.Found.TheVariants.{Held, Absent}
 use Rattle.rules.specs.Book.{Row, row_at, nodes, row_bytes, label_bytes, next_row, absent_moves, row_of}
 
 -- a room is the number of nodes that there may be: one is current, others come by doubling. The byte room is the
@@ -77,13 +76,20 @@ change book tag value = on_live_row book tag (Some value)
 abbrev pub strike : {V : Type 0} → Book V → List ℕ → Turn (Result ℕ Refusal) V
 strike book tag = on_live_row book tag None
 
+-- a find's answers: a row holds a value for the tag, or none does
+abbrev pub holds : {V : Type 0} → ℕ → V → ℕ → Found V
+holds ticket value moves = record { held = Some (record { ticket = ticket; value = value }); moves = moves }
+
+abbrev pub absent : {V : Type 0} → ℕ → Found V
+absent moves = record { held = None; moves = moves }
+
 -- what the rows say of a well-formed tag: a struck row is absent, with its own moves
 unfoldable pub find_in : {V : Type 0} → Step → List (Row V) → List ℕ → Found V
 find_in step rows tag = elim (row_of rows tag) [
-  | None ↦ Absent (absent_moves step rows tag)
+  | None ↦ absent (absent_moves step rows tag)
   | Some j ↦ elim (row_at rows j).value [
-    | None ↦ Absent (row_at rows j).moves
-    | Some value ↦ Held (row_at rows j).ticket value (row_at rows j).moves
+    | None ↦ absent (row_at rows j).moves
+    | Some value ↦ holds (row_at rows j).ticket value (row_at rows j).moves
   ]
 ]
 

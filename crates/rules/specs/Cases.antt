@@ -1,13 +1,11 @@
 -- the worked cases, with steps of 32 and numbers for values
-use Rattle.std.specs.Prelude.{◌≡◌, ℕ, List, [], ◌∷◌, ◌++◌, map, replicate, Some, codes}
+use Rattle.std.specs.Prelude.{◌≡◌, ℕ, List, [], ◌∷◌, ◌++◌, map, replicate, Some, Ok, codes}
 use Rattle.rules.specs.declared.step.Step.TheVariants.{By32}
-use Rattle.rules.specs.declared.answers.Found.TheVariants.{Held, Absent}
-use Rattle.rules.specs.declared.answers.Answer.{Answer}
 use Rattle.rules.specs.declared.answers.Answer.TheVariants.{Entered, Struck, Looked}
 use Rattle.rules.specs.Tree.{Tree, tree_of}
 use Rattle.rules.specs.Book.{Row, nodes, row_bytes, label_bytes, Arrival, rows_of}
-use Rattle.rules.specs.Calls.{Book, find_in}
-use Rattle.rules.specs.Runs.{Request, Enter, Find, Strike, Reply, replies, book_after}
+use Rattle.rules.specs.Calls.{Book, holds, absent, find_in}
+use Rattle.rules.specs.Runs.{Answered, Request, Enter, Find, Strike, Reply, replies, book_after}
 
 -- tags that arrive in this order, each with the value 1
 abbrev pub arriving : List (List ℕ) → List (Arrival ℕ)
@@ -22,7 +20,7 @@ rows tags = rows_of By32 (arriving tags)
 abbrev pub tree : List (List ℕ) → Tree
 tree tags = tree_of By32 tags
 
-abbrev pub answers : List (List ℕ) → List (Request ℕ) → List (Answer ℕ)
+abbrev pub answers : List (List ℕ) → List (Request ℕ) → List (Answered ℕ)
 answers tags qs = map (λ (r : Reply ℕ). r.answer) (replies (book tags) qs)
 
 abbrev pub techs : List (List ℕ)
@@ -50,8 +48,8 @@ pub record WorkedCases : Type 0 where
   pub tech_offsets : offsets (rows techs) ≡ 0 ∷ 5 ∷ 0 ∷ 1 ∷ []
   pub tech_nodes : nodes (rows techs) ≡ 4
   pub tech_bytes : label_bytes (rows techs) ≡ 21
-  pub technical : find_in By32 (rows techs) (codes "technical") ≡ Absent 2
-  pub struck_and_again : answers techs again ≡ Struck 1 ∷ Looked (Absent 1) ∷ Looked (Held 2 1 2) ∷ Entered 1 ∷ []
+  pub technical : find_in By32 (rows techs) (codes "technical") ≡ absent 2
+  pub struck_and_again : answers techs again ≡ Ok (Struck 1) ∷ Ok (Looked (absent 1)) ∷ Ok (Looked (holds 2 1 2)) ∷ Ok (Entered 1) ∷ []
   pub nodes_again : nodes (book_after (book techs) again).rows ≡ 4
   -- forty a, then 31 a and b
   pub offset_31 : offsets (rows (fill 40 [] ∷ fill 31 (98 ∷ []) ∷ [])) ≡ 0 ∷ 31 ∷ []

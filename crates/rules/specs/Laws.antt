@@ -1,9 +1,9 @@
 -- the laws of the tree and of the book
-use Rattle.std.specs.Prelude.{◌≡◌, ℕ, ◌+◌, ◌-◌, ◌/◌, ◌<◌, ◌≤◌, min, ◌⊎◌, List, [], ◌∷◌, ◌++◌, map, length, drop, replicate, Some, None, Ok, ◌≢◌, slice_index}
+use Rattle.std.specs.Prelude.{◌≡◌, ℕ, ◌+◌, ◌-◌, ◌/◌, ◌<◌, ◌≤◌, min, ◌⊎◌, List, [], ◌∷◌, ◌++◌, map, length, drop, replicate, Some, None, Ok, ◌≢◌, Option, slice_index}
 use Rattle.tags.specs.Tags.{WellFormed, spelled}
 use Rattle.rules.specs.declared.step.Step.{Step}
 use Rattle.rules.specs.declared.answers.Found.{Found}
-use Rattle.rules.specs.declared.answers.Found.TheVariants.{Held, Absent}
+use Rattle.rules.specs.declared.answers.Held.{Held}
 use Rattle.rules.specs.Steps.{size, step_symbol, branch_symbol}
 use Rattle.rules.specs.Tree.{Tree, node_count, edge_of, label_of, down, Look, there, lacks, look_for, moves_of, grow, enter_tag, tree_of, climb, bytes_in}
 use Rattle.rules.specs.Book.{Row, row_at, most, steps_of, nodes, label_bytes, owner_of, offset_of, needs_of, absent_moves, row_of, Arrival, rows_of, arrivals_of, tags_of}
@@ -81,11 +81,14 @@ pub record Sound {V : Type 0} (book : Book V) : Type 0 where
   pub tags : AllWellFormed (tags_of book.rows)
   pub bytes : label_bytes book.rows ≤ book.byte_room
 
--- a find's answer is what looking in the tree of the rows' tags gives: found ends at the ticket, and the moves are those
--- made, at most the tag's bytes and one
+-- looking ends at the ticket of a row that holds a value, after so many moves; where none holds one, the moves are those made
+abbrev pub Ends : {V : Type 0} → Look → Option (Held V) → ℕ → Type 0
+Ends l (Some row) moves = l ≡ there row.ticket moves
+Ends l None moves = moves_of l ≡ moves
+
+-- a find's answer is what looking in the tree of the rows' tags gives, and its moves are at most the tag's bytes and one
 abbrev pub TrueFind : {V : Type 0} → Book V → List ℕ → Found V → Type 0
-TrueFind book tag (Held ticket value moves) = (look_for book.step (tree_of book.step (tags_of book.rows)) tag ≡ there ticket moves) × (moves ≤ length tag + 1)
-TrueFind book tag (Absent moves) = (moves_of (look_for book.step (tree_of book.step (tags_of book.rows)) tag) ≡ moves) × (moves ≤ length tag + 1)
+TrueFind book tag found = Ends (look_for book.step (tree_of book.step (tags_of book.rows)) tag) found.held found.moves × (found.moves ≤ length tag + 1)
 
 -- a book with no rows is sound, a run keeps it so, and a find in a sound book that is not refused is true
 pub record FindsCountMoves (V : Type 0) : Type 0 where

@@ -3,7 +3,7 @@ use Rattle.std.specs.Prelude.{ℕ, Bool, true, false, List, [], ◌∷◌, Ok, E
 use Rattle.tags.specs.declared.refusal.Refusal.{Refusal}
 use Rattle.tags.specs.declared.refusal.Refusal.TheVariants.{NoNodeRoom, NoByteRoom}
 use Rattle.rules.specs.declared.answers.Answer.{Answer}
-use Rattle.rules.specs.declared.answers.Answer.TheVariants.{Entered, Changed, Struck, Looked, Spelled, Doubled, Refused}
+use Rattle.rules.specs.declared.answers.Answer.TheVariants.{Entered, Changed, Struck, Looked, Spelled, Doubled}
 use Rattle.rules.specs.Calls.{Book, Turn, enter, change, strike, find, spell, spell_buffer, double}
 
 -- what a call asks. Each spell brings a buffer of its own
@@ -15,15 +15,19 @@ pub data Request (V : Type 0) : Type 0 where
   Spell : (ticket : ℕ) (buffer : List ℕ) → Request V
   Double : Request V
 
--- a call's result as the answer of a run
-abbrev pub answer_of : {A V : Type 0} → (A → Answer V) → Result A Refusal → Answer V
-answer_of says (Ok a) = says a
-answer_of says (Err why) = Refused why
+-- what a call of a run answers, or why it is refused
+abbrev pub Answered : Type 0 → Type 0
+Answered V = Result (Answer V) Refusal
 
-abbrev pub turn_of : {A V : Type 0} → (A → Answer V) → Turn (Result A Refusal) V → Turn (Answer V) V
+-- a call's result as the answer of a run
+abbrev pub answer_of : {A V : Type 0} → (A → Answer V) → Result A Refusal → Answered V
+answer_of says (Ok a) = Ok (says a)
+answer_of says (Err why) = Err why
+
+abbrev pub turn_of : {A V : Type 0} → (A → Answer V) → Turn (Result A Refusal) V → Turn (Answered V) V
 turn_of says t = record { answer = answer_of says t.answer; next = t.next }
 
-abbrev pub turn : {V : Type 0} → Book V → Request V → Turn (Answer V) V
+abbrev pub turn : {V : Type 0} → Book V → Request V → Turn (Answered V) V
 turn book (Enter tag value) = turn_of Entered (enter book tag value)
 turn book (Change tag value) = turn_of Changed (change book tag value)
 turn book (Find tag) = record { answer = answer_of Looked (find book tag); next = book }
@@ -42,7 +46,7 @@ buffer_after book Double = []
 
 -- what a call gets
 pub record Reply (V : Type 0) : Type 0 where
-  pub answer : Answer V
+  pub answer : Answered V
   pub buffer : List ℕ
 
 abbrev pub reply_to : {V : Type 0} → Book V → Request V → Reply V
@@ -78,8 +82,8 @@ replies_but_doubles book (q ∷ qs) = elim (is_double q) [
 ]
 
 -- no refusal for want of room
-abbrev pub Roomy : {V : Type 0} → Answer V → Type 0
-Roomy a = (a ≢ Refused NoNodeRoom) × (a ≢ Refused NoByteRoom)
+abbrev pub Roomy : {V : Type 0} → Answered V → Type 0
+Roomy a = (a ≢ Err NoNodeRoom) × (a ≢ Err NoByteRoom)
 
 abbrev pub AllRoomy : {V : Type 0} → List (Reply V) → Type 0
 AllRoomy [] = Unit {0}

@@ -1,7 +1,8 @@
 ghost use Rattle.std.specs.Prelude.{◌≡◌, ◌/◌, ◌%◌};
-ghost use Rattle.rules.specs.Steps.{size, step_symbol, branch_symbol};
+ghost use Rattle.rules.specs.Steps.{size, symbol_count, step_symbol, branch_symbol};
 
-// The step length of a tree: how many places of a label one step goes past.
+// The step length of a tree: how many places of a label one step goes past. Each method is a match, so that another length
+// is another arm.
 #[derive(Clone, Copy, PartialEq, Eq, Debug)]
 pub enum Step {
     By32,
@@ -13,6 +14,15 @@ impl Step {
     {
         match self {
             Step::By32 => 32,
+        }
+    }
+
+    // Every symbol is below this.
+    pub fn symbol_count(self) -> u16
+        ensures { result ≡ symbol_count self }
+    {
+        match self {
+            Step::By32 => 8192,
         }
     }
 
@@ -39,7 +49,7 @@ impl Step {
         ensures { result ≡ branch_symbol self byte place }
     {
         match self {
-            Step::By32 => 32 * byte as u16 + (place % 32) as u16,
+            Step::By32 => 32 * u16::from(byte) + (place % 32) as u16,
         }
     }
 
@@ -56,7 +66,7 @@ impl Step {
         ensures { result ≡ symbol % size self }
     {
         match self {
-            Step::By32 => (symbol % 32) as usize,
+            Step::By32 => usize::from(symbol % 32),
         }
     }
 }

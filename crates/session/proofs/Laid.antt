@@ -1,8 +1,9 @@
 -- texts laid over bytes, one behind another
-use Rattle.std.proofs.Common.{◌≡◌, ℕ, zero, suc, ◌+◌, ◌-◌, ◌^◌, ◌<◌, ◌≤◌, min, List, [], ◌∷◌, ◌++◌, length, take, drop, sym, refl, ap, ◌∙◌, inl, inr, append-nil, arith, length-append, length-drop, length-take}
+use Rattle.std.proofs.Common.{◌≡◌, ℕ, zero, suc, ◌+◌, ◌-◌, ◌^◌, ◌≤◌, min, List, [], ◌∷◌, ◌++◌, length, take, drop, sym, refl, ap, ◌∙◌, inl, inr, append-nil, arith, length-append, length-drop, length-take}
 use borrow.Rule.Slice.PartMut.{put_mid}
 use Rattle.std.proofs.lemmas.List.{take_all, drop_all}
 use Rattle.std.proofs.lemmas.Bool.{cases_lt}
+use Rattle.session.specs.declared.output.Output.{Output}
 use Rattle.session.specs.Output.{over, Wrote}
 
 -- nothing goes over no bytes
@@ -63,30 +64,33 @@ length_laid : (at : ℕ) (text out : List ℕ) → length (laid at text out) ≡
 length_laid at text out = length-append (take at out) (over text (drop at out)) ∙ omega (arith, length_over text (drop at out), length-take at out, length-drop at out)
 
 -- two texts, one behind the other, are one
-pub joined : {out out' out'' text more : List ℕ} {at at' at'' : ℕ} → Wrote out at text out' at' → Wrote out' at' more out'' at'' → Wrote out at (text ++ more) out'' at''
-joined {out} {out'} {out''} {text} {more} {at} {at'} {at''} first second =
-    let long : length out' ≡ length out = ap length first.bytes ∙ length_laid at text out in
-    let same : laid at' more out' ≡ laid (at + length text) more out' = elim (cases_lt (at + length text) (2 ^ 64 - 1)) [
-      | inl h ↦ (let z : at' ≡ at + length text = omega (arith, first.count) in ap (λ (n : ℕ). laid n more out') z)
+pub joined : {o o' o'' : Output} {text more : List ℕ} → Wrote o text o' → Wrote o' more o'' → Wrote o (text ++ more) o''
+joined {o} {o'} {o''} {text} {more} first second =
+    let at = o.at in
+    let out = o.out.now in
+    let long : length o'.out.now ≡ length out = ap length first.bytes ∙ length_laid at text out in
+    let behind : laid o'.at more o'.out.now ≡ laid (at + length text) more o'.out.now = elim (cases_lt (at + length text) (2 ^ 64 - 1)) [
+      | inl h ↦ (let z : o'.at ≡ at + length text = omega (arith, first.count) in ap (λ (n : ℕ). laid n more o'.out.now) z)
       | inr h ↦
-          let z : length out' ≤ at' = omega (arith, first.count, first.short) in
-          let y : length out' ≤ at + length text = omega (arith, first.short) in
-          laid_beyond at' more out' z ∙ sym (laid_beyond (at + length text) more out' y)
+          let z : length o'.out.now ≤ o'.at = omega (arith, first.count, o.short) in
+          let y : length o'.out.now ≤ at + length text = omega (arith, o.short) in
+          laid_beyond o'.at more o'.out.now z ∙ sym (laid_beyond (at + length text) more o'.out.now y)
     ] in
     record {
-      short = first.short;
-      bytes = second.bytes ∙ same ∙ ap (λ (xs : List ℕ). laid (at + length text) more xs) first.bytes ∙ laid_append at text more out;
+      same = second.same ∙ first.same;
+      bytes = second.bytes ∙ behind ∙ ap (λ (xs : List ℕ). laid (at + length text) more xs) first.bytes ∙ laid_append at text more out;
       count = second.count ∙ omega (arith, first.count, length-append text more);
     }
 
--- a part of the bytes, written over
-pub put_within : (out text part : List ℕ) (at n k : ℕ) → at < length out → n ≡ min (length text) (length out - at) → k ≡ n → part ≡ take n text
-    → put_mid at k out part ≡ take at out ++ over text (drop at out)
-put_within out text part at n k h e same is =
-    let m : n ≡ min (length text) (length (drop at out)) = omega (arith, length-drop at out) in
-    ap (λ (j : ℕ). put_mid at j out part) same
-    ∙ ap (λ (xs : List ℕ). take at out ++ (xs ++ drop n (drop at out))) is
-    ∙ ap (λ (xs : List ℕ). take at out ++ xs) (sym (over_is text (drop at out) n m))
-
-pub put_beyond : (out text : List ℕ) (at : ℕ) → length out ≤ at → out ≡ take at out ++ over text (drop at out)
-put_beyond out text at h = sym (laid_beyond at text out h)
+-- a part of the bytes, written over, from the place on or from their end
+pub put_within : (out text part : List ℕ) (at start n k : ℕ) → start ≡ min at (length out) → n ≡ min (length text) (length out - start) → k ≡ n → part ≡ take n text
+    → put_mid start k out part ≡ take at out ++ over text (drop at out)
+put_within out text part at start n k s e same is =
+    let m : n ≡ min (length text) (length (drop start out)) = omega (arith, length-drop start out) in
+    ap (λ (j : ℕ). put_mid start j out part) same
+    ∙ ap (λ (xs : List ℕ). take start out ++ (xs ++ drop n (drop start out))) is
+    ∙ ap (λ (xs : List ℕ). take start out ++ xs) (sym (over_is text (drop start out) n m))
+    ∙ elim (cases_lt at (length out)) [
+      | inl h ↦ (let z : start ≡ at = omega arith in ap (λ (j : ℕ). laid j text out) z)
+      | inr h ↦ laid_beyond start text out (omega arith) ∙ sym (laid_beyond at text out h)
+    ]

@@ -1,5 +1,5 @@
 -- the lines and the totals behind them
-use Rattle.std.proofs.Common.{◌≡◌, ℕ, Bool, true, false, cond, List, ◌++◌, length, Ok, Err, Option, Result, refl, ap, ◌∙◌, zero-add}
+use Rattle.std.proofs.Common.{◌≡◌, ℕ, Bool, true, false, cond, List, ◌+◌, ◌++◌, length, take, drop, Ok, Err, Option, Result, refl, ap, ◌∙◌, zero-add}
 use Rattle.tags.specs.declared.refusal.Refusal.{Refusal}
 use Rattle.tags.specs.declared.refusal.Refusal.TheVariants.{UnfitParts}
 use Rattle.rules.specs.Book.{nodes, label_bytes}
@@ -10,26 +10,28 @@ use Rattle.parts.specs.Stores.{Store}
 use Rattle.commands.specs.Lines.{lines}
 use Rattle.dictionary.specs.Shows.{Shows, fits, fresh_book}
 use Rattle.dictionary.proofs.Alike.{same_count, same_total}
-use Rattle.session.specs.Output.{counted, Wrote, Printed}
+use Rattle.session.specs.declared.output.Output.{Output}
+use Rattle.session.specs.Output.{over, counted, Wrote, Printed}
 use Rattle.session.specs.Texts.{totals_text, printed, printed_unfit}
 use Rattle.session.specs.Served.{ServedList, printed_over}
 use Rattle.session.proofs.Laid.{joined}
 use Rattle.session.proofs.Saying.{wrote_as}
 
--- all that was written from the first byte on
-printed_whole : {text out out' : List ℕ} {at : ℕ} → Wrote out 0 text out' at → Printed text out out' at
-printed_whole {text} w = record { bytes = w.bytes; total = w.count ∙ ap counted (zero-add (length text)) }
-
--- the totals are those that are known
-pub printed_with : {text out out' out'' : List ℕ} {at at' n k n' k' : ℕ} → n ≡ n' → k ≡ k'
-    → Wrote out 0 text out' at → Wrote out' at (totals_text n k) out'' at' → Printed (text ++ totals_text n' k') out out'' at'
-printed_with {n = n} {k} {n'} {k'} e f first last =
-    printed_whole (joined first (wrote_as (ap (λ (i : ℕ). totals_text i k) e ∙ ap (λ (j : ℕ). totals_text n' j) f) last))
+-- all that was written from the first byte on; the totals are those that are known
+pub printed_with : {text out out' : List ℕ} {o o' o'' : Output} {n k n' k' count : ℕ} → Wrote o text o' → Wrote o' (totals_text n k) o''
+    → o.out.now ≡ out → o.at ≡ 0 → out' ≡ o''.out.now → count ≡ o''.at → n ≡ n' → k ≡ k' → Printed (text ++ totals_text n' k') out out' count
+printed_with {text} {out} {out'} {o} {o'} {o''} {n} {k} {n'} {k'} {count} first last lent start back counts e f =
+    let w = joined first (wrote_as (ap (λ (i : ℕ). totals_text i k) e ∙ ap (λ (j : ℕ). totals_text n' j) f) last) in
+    record {
+      bytes = back ∙ w.bytes ∙ ap (λ (at : ℕ). take at o.out.now ++ over (text ++ totals_text n' k') (drop at o.out.now)) start ∙ ap (over (text ++ totals_text n' k')) lent;
+      total = counts ∙ w.count ∙ ap (λ (at : ℕ). counted (at + length (text ++ totals_text n' k'))) start ∙ ap counted (zero-add (length (text ++ totals_text n' k')));
+    }
 
 -- parts that show a book have the book's totals
-pub printed_of : {text out out' out'' : List ℕ} {at at' n k : ℕ} (m : Map) (l : Store) (s : List (Option ℕ)) (b : Book ℕ) → Shows m l s b → n ≡ count_of m → k ≡ bytes_in l.labels
-    → Wrote out 0 text out' at → Wrote out' at (totals_text n k) out'' at' → Printed (text ++ totals_text (nodes b.rows) (label_bytes b.rows)) out out'' at'
-printed_of m l s b sh e f first last = printed_with (e ∙ same_count m l s b sh) (f ∙ same_total m l s b sh) first last
+pub printed_of : {text out out' : List ℕ} {o o' o'' : Output} {n k count : ℕ} (m : Map) (l : Store) (s : List (Option ℕ)) (b : Book ℕ) → Shows m l s b
+    → Wrote o text o' → Wrote o' (totals_text n k) o''
+    → o.out.now ≡ out → o.at ≡ 0 → out' ≡ o''.out.now → count ≡ o''.at → n ≡ count_of m → k ≡ bytes_in l.labels → Printed (text ++ totals_text (nodes b.rows) (label_bytes b.rows)) out out' count
+printed_of m l s b sh first last lent start back counts e f = printed_with first last lent start back counts (e ∙ same_count m l s b sh) (f ∙ same_total m l s b sh)
 
 -- parts either fit or do not
 pub printed_either : {m : Map} {l : Store} {s : List (Option ℕ)} {text out out' : List ℕ} {count : ℕ} {m' : Map} {l' : Store} {s' : List (Option ℕ)} {AsGiven : Type 0}

@@ -1,3 +1,4 @@
 pub mod Output
 pub mod Texts
+pub mod Outcomes
 pub mod Served

@@ -1,15 +1,14 @@
 -- what is printed for the lines of a bench list
-use Rattle.std.specs.Prelude.{ℕ, List, [], ◌∷◌, ◌++◌, take, replicate, Some, None, codes, decimal, Option}
+use Rattle.std.specs.Prelude.{ℕ, List, [], ◌∷◌, ◌++◌, take, replicate, Some, None, Ok, Err, codes, decimal, Option}
 use Prim.Native.String.{String}
 use Rattle.tags.specs.declared.refusal.Refusal.TheVariants.{UnfitParts}
 use Rattle.tags.specs.Refusals.{refusal_number}
 use Rattle.rules.specs.declared.answers.Found.{Found}
-use Rattle.rules.specs.declared.answers.Found.TheVariants.{Held, Absent}
-use Rattle.rules.specs.declared.answers.Answer.{Answer}
-use Rattle.rules.specs.declared.answers.Answer.TheVariants.{Entered, Changed, Struck, Looked, Spelled, Doubled, Refused}
+use Rattle.rules.specs.declared.answers.Held.{Held}
+use Rattle.rules.specs.declared.answers.Answer.TheVariants.{Entered, Changed, Struck, Looked, Spelled, Doubled}
 use Rattle.rules.specs.Book.{nodes, label_bytes}
 use Rattle.rules.specs.Calls.{Book}
-use Rattle.rules.specs.Runs.{Request, Enter, Change, Find, Strike, Spell, Double, turn, Reply, reply_to}
+use Rattle.rules.specs.Runs.{Answered, Request, Enter, Change, Find, Strike, Spell, Double, turn, Reply, reply_to}
 use Rattle.rules.specs.Tree.{bytes_in}
 use Rattle.parts.specs.Maps.{Map, count_of}
 use Rattle.parts.specs.Stores.{Store}
@@ -19,19 +18,22 @@ use Rattle.commands.specs.Commands.{Order, enter, change, find, strike, spell, d
 abbrev pub labelled : String → ℕ → List ℕ
 labelled word n = codes word ++ decimal n
 
-abbrev pub found_text : Found ℕ → List ℕ
-found_text (Held ticket amount moves) = labelled "found " ticket ++ labelled " " amount ++ labelled " " moves
-found_text (Absent moves) = labelled "absent " moves
+abbrev pub found_with : Option (Held ℕ) → ℕ → List ℕ
+found_with (Some held) moves = labelled "found " held.ticket ++ labelled " " held.value ++ labelled " " moves
+found_with None moves = labelled "absent " moves
 
--- an answer; a spelled tag stands at the buffer's beginning
-abbrev pub answer_text : Answer ℕ → List ℕ → List ℕ
-answer_text (Entered ticket) buffer = labelled "entered " ticket
-answer_text (Changed ticket) buffer = labelled "changed " ticket
-answer_text (Struck ticket) buffer = labelled "struck " ticket
-answer_text (Looked found) buffer = found_text found
-answer_text (Spelled length) buffer = codes "spelled " ++ take length buffer
-answer_text (Doubled room) buffer = labelled "doubled " room
-answer_text (Refused why) buffer = labelled "refused " (refusal_number why)
+abbrev pub found_text : Found ℕ → List ℕ
+found_text found = found_with found.held found.moves
+
+-- an answer, or why a call is refused; a spelled tag stands at the buffer's beginning
+abbrev pub answer_text : Answered ℕ → List ℕ → List ℕ
+answer_text (Ok (Entered ticket)) buffer = labelled "entered " ticket
+answer_text (Ok (Changed ticket)) buffer = labelled "changed " ticket
+answer_text (Ok (Struck ticket)) buffer = labelled "struck " ticket
+answer_text (Ok (Looked found)) buffer = found_text found
+answer_text (Ok (Spelled length)) buffer = codes "spelled " ++ take length buffer
+answer_text (Ok (Doubled room)) buffer = labelled "doubled " room
+answer_text (Err why) buffer = labelled "refused " (refusal_number why)
 
 -- every line that is printed ends with byte 10
 abbrev pub ended : List ℕ → List ℕ

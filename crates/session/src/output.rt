@@ -1,33 +1,50 @@
-ghost use Rattle.std.specs.Prelude.{◌++◌, decimal};
-ghost use Rattle.session.specs.Output.{Wrote};
+ghost use Rattle.std.specs.Prelude.{◌≡◌, ◌^◌, ◌<◌, ◌++◌, length, decimal};
 
-// Writes a text from a place on, as far as the bytes go, and answers the place behind it, whether it fits or not.
-pub(crate) fn put(out: &mut [u8], at: usize, text: &[u8]) -> usize
-    ensures { Wrote out.old at text.now out.new result }
-{
-    if at < out.len() {
-        let n = text.len().min(out.len() - at);
-        out[at..at + n].copy_from_slice(&text[..n]);
-    }
-    at.saturating_add(text.len())
+use itoa::Buffer;
+
+// Lent bytes that text is written into from the first on, as far as they go, and how many bytes were written, whether they
+// fit or not. A `write!` promises its text only where it answers `Ok`, and no contract says when it does; what is printed
+// for a list is promised always, so it is laid as bytes.
+#[derive(Drop)]
+pub(crate) struct Output<'a> {
+    out: &'a mut [u8],
+    at: usize,
+    ghost short: { length out.now < 2 ^ 64 },
+    ghost counted: { at < 2 ^ 64 },
 }
 
-// Writes a number in decimal.
-fn put_number(out: &mut [u8], at: usize, n: u32) -> usize
-    ensures { Wrote out.old at (decimal n) out.new result }
-{
-    let digit = b'0' + (n % 10) as u8;
-    if n < 10 {
-        return put(out, at, &[digit]);
-    }
-    let at = put_number(out, at, n / 10);
-    put(out, at, &[digit])
-}
+impl<'a> Output<'a> {
+    ghost use Rattle.session.specs.Output.{Wrote};
 
-// Writes a word and a number.
-pub(crate) fn put_with(out: &mut [u8], at: usize, word: &[u8], n: u32) -> usize
-    ensures { Wrote out.old at (word.now ++ decimal n) out.new result }
-{
-    let at = put(out, at, word);
-    put_number(out, at, n)
+    pub(crate) fn new(out: &'a mut [u8]) -> Output<'a>
+        ensures same { result.out.ghost_name ≡ out.entry.ghost_name }
+        ensures bytes { result.out.now ≡ out.old }
+        ensures start { result.at ≡ 0 }
+    {
+        Output { out, at: 0 }
+    }
+
+    // How many bytes were written.
+    pub(crate) fn count(&self) -> usize
+        ensures { result ≡ self.now.at }
+    {
+        self.at
+    }
+
+    pub(crate) fn put(&mut self, text: &[u8])
+        ensures { Wrote self.old text.now self.new }
+    {
+        let start = self.at.min(self.out.len());
+        let n = text.len().min(self.out.len() - start);
+        self.out[start..start + n].copy_from_slice(&text[..n]);
+        self.at = self.at.saturating_add(text.len());
+    }
+
+    // Writes a word and a number in decimal.
+    pub(crate) fn put_with(&mut self, word: &[u8], n: u32)
+        ensures { Wrote self.old (word.now ++ decimal n) self.new }
+    {
+        self.put(word);
+        self.put(Buffer::new().format(n).as_bytes());
+    }
 }

@@ -1,56 +1,57 @@
-ghost use Rattle.session.specs.Output.{Wrote};
+ghost use Rattle.std.specs.Prelude.{Ok};
 ghost use Rattle.rules.specs.declared.answers.Answer.TheVariants.{Spelled};
 ghost use Rattle.session.specs.Texts.{found_text, answer_text, totals_text};
 
-use crate::output::{put, put_with};
+use crate::output::Output;
 use rules::answers::{Answer, Found};
+use tags::refusal::Refusal;
 
-// What a find answers.
-fn put_found(out: &mut [u8], at: usize, found: Found<u32>) -> usize
-    ensures { Wrote out.old at (found_text found) out.new result }
-{
-    match found {
-        Found::Held {
-            ticket,
-            value,
-            moves,
-        } => {
-            let at = put_with(out, at, b"found ", ticket);
-            let at = put_with(out, at, b" ", value);
-            put_with(out, at, b" ", moves)
+impl Output<'_> {
+    ghost use Rattle.session.specs.Output.{Wrote};
+
+    // What a find answers.
+    fn put_found(&mut self, found: Found<u32>)
+        ensures { Wrote self.old (found_text found) self.new }
+    {
+        match found.held {
+            Some(held) => {
+                self.put_with(b"found ", held.ticket);
+                self.put_with(b" ", held.value);
+                self.put_with(b" ", found.moves);
+            }
+            None => self.put_with(b"absent ", found.moves),
         }
-        Found::Absent { moves } => put_with(out, at, b"absent ", moves),
     }
-}
 
-// The first bytes of a buffer, behind a word.
-fn put_spelled(out: &mut [u8], at: usize, length: usize, buffer: &[u8]) -> usize
-    ensures { Wrote out.old at (answer_text (Spelled length) buffer.now) out.new result }
-{
-    let at = put(out, at, b"spelled ");
-    put(out, at, &buffer[..length.min(buffer.len())])
-}
-
-// An answer. A spell's buffer begins with the tag.
-pub(crate) fn put_answer(out: &mut [u8], at: usize, answer: Answer<u32>, buffer: &[u8]) -> usize
-    ensures { Wrote out.old at (answer_text answer buffer.now) out.new result }
-{
-    match answer {
-        Answer::Entered(ticket) => put_with(out, at, b"entered ", ticket),
-        Answer::Changed(ticket) => put_with(out, at, b"changed ", ticket),
-        Answer::Struck(ticket) => put_with(out, at, b"struck ", ticket),
-        Answer::Looked(found) => put_found(out, at, found),
-        Answer::Spelled(length) => put_spelled(out, at, length, buffer),
-        Answer::Doubled(room) => put_with(out, at, b"doubled ", room),
-        Answer::Refused(why) => put_with(out, at, b"refused ", u32::from(why.number())),
+    // The first bytes of a buffer, behind a word.
+    fn put_spelled(&mut self, length: usize, buffer: &[u8])
+        ensures { Wrote self.old (answer_text (Ok (Spelled length)) buffer.now) self.new }
+    {
+        self.put(b"spelled ");
+        self.put(&buffer[..length.min(buffer.len())]);
     }
-}
 
-// The last line: how many nodes and label bytes there are.
-pub(crate) fn put_totals(out: &mut [u8], at: usize, nodes: u32, label_bytes: u32) -> usize
-    ensures { Wrote out.old at (totals_text nodes label_bytes) out.new result }
-{
-    let at = put_with(out, at, b"nodes ", nodes);
-    let at = put_with(out, at, b" bytes ", label_bytes);
-    put(out, at, b"\n")
+    // An answer, or why there is none. A spell's buffer begins with the tag.
+    pub(crate) fn put_answer(&mut self, answer: Result<Answer<u32>, Refusal>, buffer: &[u8])
+        ensures { Wrote self.old (answer_text answer buffer.now) self.new }
+    {
+        match answer {
+            Ok(Answer::Entered(ticket)) => self.put_with(b"entered ", ticket),
+            Ok(Answer::Changed(ticket)) => self.put_with(b"changed ", ticket),
+            Ok(Answer::Struck(ticket)) => self.put_with(b"struck ", ticket),
+            Ok(Answer::Looked(found)) => self.put_found(found),
+            Ok(Answer::Spelled(length)) => self.put_spelled(length, buffer),
+            Ok(Answer::Doubled(room)) => self.put_with(b"doubled ", room),
+            Err(why) => self.put_with(b"refused ", u32::from(u8::from(why))),
+        }
+    }
+
+    // The last line: how many nodes and label bytes there are.
+    pub(crate) fn put_totals(&mut self, nodes: u32, label_bytes: u32)
+        ensures { Wrote self.old (totals_text nodes label_bytes) self.new }
+    {
+        self.put_with(b"nodes ", nodes);
+        self.put_with(b" bytes ", label_bytes);
+        self.put(b"\n");
+    }
 }

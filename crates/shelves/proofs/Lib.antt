@@ -1,5 +1,3 @@
-pub mod Bits
-pub mod Fills
-pub mod Pairs
+pub mod Elements
 pub mod Places
-pub mod Records
+pub mod Shifts

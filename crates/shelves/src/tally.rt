@@ -23,20 +23,23 @@ pub fn check_tally(counts: Counts) -> Result<(), Refusal>
     Ok(())
 }
 
-impl Tally {
-    // The tally of plain numbers that `check_tally` takes.
-    pub fn new(counts: Counts) -> Result<Tally, Refusal>
-        ensures { result_map_both (λ t. t.counts) (λ e. e) result ≡ tally_answer counts }
-    {
+// The tally of plain numbers that `check_tally` takes.
+impl TryFrom<Counts> for Tally {
+    type Error = Refusal;
+
+    ghost try_from_gives = { λ counts made. result_map_both (λ tally. tally.counts) (λ why. why) made ≡ tally_answer counts };
+
+    fn try_from(counts: Counts) -> Result<Tally, Refusal> {
         check_tally(counts)?;
         Ok(Tally { counts })
     }
+}
 
-    // The plain numbers, which are balanced.
-    pub fn counts(self) -> Counts
-        ensures counts { result ≡ self.counts }
-        ensures balance { balanced result ≡ true }
-    {
-        self.counts
+// The plain numbers of a tally, which are balanced.
+impl From<Tally> for Counts {
+    ghost from_gives = { λ tally counts. (counts ≡ tally.counts) × (balanced counts ≡ true) };
+
+    fn from(tally: Tally) -> Counts {
+        tally.counts
     }
 }

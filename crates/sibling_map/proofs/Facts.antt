@@ -1,8 +1,7 @@
 -- what the type of a sibling map says
-use Rattle.std.proofs.Common.{◌≡◌, ℕ, suc, ◌+◌, ◌^◌, ◌<◌, ◌≤◌, List, length, Ok, Err, sym, ap, ◌∙◌, subst, inl, inr, arith, pow_mono}
+use Rattle.std.proofs.Common.{◌≡◌, ℕ, suc, ◌+◌, ◌^◌, ◌<◌, ◌≤◌, List, length, Ok, sym, ap, subst, inl, inr, arith, pow_mono}
 use lib.Pow.{pow-lt}
 use Rattle.std.proofs.lemmas.Bool.{cases_eq}
-use Rattle.tags.specs.declared.refusal.MapFault.{MapFault}
 use Rattle.rules.specs.declared.step.Step.TheVariants.{By32}
 use Rattle.rules.specs.Steps.{symbol_count}
 use Rattle.rules.specs.Tree.{Edge, node_count, edge_of}
@@ -13,7 +12,7 @@ use Rattle.parts.proofs.Children.{edge_is}
 use Rattle.sibling_map.specs.declared.record.NodeRecord.{NodeRecord}
 use Rattle.sibling_map.specs.declared.shape.SiblingMap.{SiblingMap}
 use Rattle.sibling_map.specs.Records.{at, edges_in, record_of, Parents, Symbols, Distinct, Laid}
-use Rattle.sibling_map.specs.Meaning.{capacity, meaning_of, pair_answer}
+use Rattle.sibling_map.specs.Meaning.{capacity, meaning_of}
 use Rattle.sibling_map.proofs.Read.{length_edges, laid_from}
 
 pub count_is : (rs : List NodeRecord) (n : ℕ) → node_count (edges_in rs n) ≡ n + 1
@@ -31,15 +30,8 @@ facts_of s = record {
 }
 
 -- what the test of a pair tells
-pair_asked : (s : SiblingMap) (u c : ℕ) → asked {A = Unit {0}} By32 (meaning_of s) u c (Ok tt) ≡ pair_answer (s.later + 1) u c
-pair_asked s u c = ap (λ (n : ℕ). pair_answer n u c) (count_is s.records.now s.later)
-
-pub pair_out : (s : SiblingMap) (u c : ℕ) (fault : MapFault) → Err fault ≡ pair_answer (s.later + 1) u c
-    → asked {A = Unit {0}} By32 (meaning_of s) u c (Ok tt) ≡ Err fault
-pair_out s u c fault e = pair_asked s u c ∙ sym e
-
-pub pair_in_lem : (s : SiblingMap) (u c : ℕ) → Ok tt ≡ pair_answer (s.later + 1) u c → (u < count_of (meaning_of s)) × (c < symbol_count By32)
-pair_in_lem s u c e = asked_in By32 (meaning_of s) u c (pair_asked s u c ∙ sym e)
+pub pair_in_lem : (s : SiblingMap) (u c : ℕ) → Ok tt ≡ asked {A = Unit {0}} By32 (meaning_of s) u c (Ok tt) → (u < count_of (meaning_of s)) × (c < symbol_count By32)
+pair_in_lem s u c e = asked_in By32 (meaning_of s) u c (sym e)
 
 -- a map with a room above 1 uses its records, and each node has one
 pub in_use : (s : SiblingMap) → 1 < 2 ^ s.log → 0 < s.top

@@ -1,9 +1,9 @@
 -- the records of a new map
-use Rattle.std.proofs.Common.{◌≡◌, ℕ, zero, suc, ◌<◌, ◌≤◌, List, [], length, set, None, Option, sym, refl, ap, ◌∙◌, arith, length-set, get_or-set_other, get_or-set_same}
+use Rattle.std.proofs.Common.{◌≡◌, ℕ, zero, suc, ◌<◌, ◌≤◌, List, [], length, set, None, Option, sym, refl, ap, ◌∙◌, arith, get_or-set_same}
 use Rattle.sibling_map.specs.declared.record.NodeRecord.{NodeRecord}
-use Rattle.sibling_map.specs.Records.{parent_of, record_of, laid_out, blank, at, Laid}
+use Rattle.sibling_map.specs.Records.{parent_of, record_of, blank, at, Laid}
 use Rattle.sibling_map.proofs.Newest.{newest_zero}
-use Rattle.sibling_map.proofs.Read.{laid_from, laid_out_lem}
+use Rattle.sibling_map.proofs.Read.{laid_from}
 
 module _ (rs : List NodeRecord) (some : 0 < length rs) where
   at_start : (v : ℕ) → v ≤ 0 → at (set rs 0 blank) v ≡ record_of [] v
@@ -14,8 +14,3 @@ module _ (rs : List NodeRecord) (some : 0 < length rs) where
 
   pub start_laid : (top : ℕ) → Laid top (set rs 0 blank) 0
   start_laid top = laid_from top (set rs 0 blank) 0 [] refl (λ v used h. at_start v h)
-
-  pub start_out : set rs 0 blank ≡ laid_out [] rs
-  start_out =
-      let l : length (set rs 0 blank) ≡ length rs = simp length-set in
-      laid_out_lem [] rs (set rs 0 blank) l (omega arith) (λ v h. at_start v (omega arith)) (λ v h. get_or-set_other rs 0 v blank blank (λ e. omega arith))

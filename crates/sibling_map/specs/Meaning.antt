@@ -1,9 +1,7 @@
 -- what a sibling map means, and what the lent records hold after a call
-use Rattle.std.specs.Prelude.{ℕ, ◌^◌, cond, List, [], length, Some, None, Ok, Err, Option, Result, nat_lt}
+use Rattle.std.specs.Prelude.{ℕ, ◌^◌, List, [], length, Some, None, Ok, Err, Option, Result}
 use Rattle.tags.specs.declared.refusal.MapFault.{MapFault}
-use Rattle.tags.specs.declared.refusal.MapFault.TheVariants.{NoNode, SymbolTooLarge}
 use Rattle.rules.specs.declared.step.Step.TheVariants.{By32}
-use Rattle.rules.specs.Steps.{symbol_count}
 use Rattle.rules.specs.Tree.{Edge}
 use Rattle.parts.specs.Maps.{Map, add_answer, add_next}
 use Rattle.parts.specs.Sizes.{power_for, rooms_to}
@@ -38,7 +36,3 @@ records_for (Err fault) edges rs = rs
 
 abbrev pub add_records : SiblingMap → ℕ → ℕ → List NodeRecord
 add_records s u c = records_for (add_answer By32 (meaning_of s) u c) (add_next By32 (meaning_of s) u c).edges s.records.now
-
--- the first two faults of child and add, where there are so many nodes
-abbrev pub pair_answer : ℕ → ℕ → ℕ → Result (Unit {0}) MapFault
-pair_answer count u c = cond (nat_lt u count) (cond (nat_lt c (symbol_count By32)) (Ok tt) (Err SymbolTooLarge)) (Err NoNode)

@@ -3,7 +3,7 @@ ghost use Rattle.rules.specs.declared.step.Step.TheVariants.{By32};
 ghost use Rattle.rules.specs.Tree.{child};
 ghost use Rattle.parts.specs.Maps.{add_answer, add_next, double_answer, double_next};
 ghost use Rattle.parts.specs.Sizes.{power_for, size_answer, map_for};
-ghost use Rattle.sibling_map.specs.Meaning.{capacity, meaning_of, size_of, start_records, add_records, pair_answer};
+ghost use Rattle.sibling_map.specs.Meaning.{capacity, meaning_of, size_of, start_records, add_records};
 
 use crate::record::NodeRecord;
 use crate::shape::SiblingMap;
@@ -11,27 +11,11 @@ use parts::map::NodeMap;
 use parts::sizes::{check_size, power_for};
 use tags::refusal::{MapFault, Refusal};
 
-// Every symbol is below this.
-const SYMBOL_COUNT: u16 = 8192;
-
 // Whether a map can be made in so many records: 16, 32, up to 32,768.
 pub fn check_records(count: usize) -> Result<(), Refusal>
     ensures { result ≡ size_answer (power_for count 1) }
 {
     check_size(count, 1)
-}
-
-// The first two faults of child and add, where there are so many nodes.
-fn check_pair(count: u32, u: u32, c: u16) -> Result<(), MapFault>
-    ensures { result ≡ pair_answer count u c }
-{
-    if u >= count {
-        return Err(MapFault::NoNode);
-    }
-    if c >= SYMBOL_COUNT {
-        return Err(MapFault::SymbolTooLarge);
-    }
-    Ok(())
 }
 
 // The room of a current size.
@@ -78,7 +62,7 @@ impl<'a> SiblingMap<'a> {
         while let Some(v) = at {
             let record = self.records[v as usize];
             if record.symbol == c {
-                return Some(v as u32);
+                return Some(u32::from(v));
             }
             at = record.next;
         }
@@ -101,8 +85,9 @@ impl NodeMap for SiblingMap<'_> {
         room_at(self.top)
     }
 
+    // `child` and the heads of `add` and `double` read as in the compact map, which says why.
     fn child(&self, u: u32, c: u16) -> Result<Option<u32>, MapFault> {
-        check_pair(self.later + 1, u, c)?;
+        self.check_pair(u, c)?;
         Ok(self.find(u, c))
     }
 
@@ -113,11 +98,11 @@ impl NodeMap for SiblingMap<'_> {
         ensures memory { self.new.records.now ≡ add_records self.old u c }
         ensures lender { self.new.records.ghost_name ≡ self.old.records.ghost_name }
     {
-        let v = self.later + 1;
-        check_pair(v, u, c)?;
-        if let Some(_) = self.find(u, c) {
+        self.check_pair(u, c)?;
+        if self.find(u, c).is_some() {
             return Err(MapFault::PairTaken);
         }
+        let v = self.later + 1;
         if v >= room_at(self.log) {
             return Err(MapFault::RoomFull);
         }
@@ -138,7 +123,7 @@ impl NodeMap for SiblingMap<'_> {
             return Err(MapFault::NoNode);
         }
         let record = self.records[v as usize];
-        Ok((record.parent as u32, record.symbol))
+        Ok((u32::from(record.parent), record.symbol))
     }
 
     fn double(&mut self) -> Result<u32, MapFault>

@@ -1,6 +1,7 @@
 // What is kept of a node: its parent and symbol, its newest child, and the next older child of its parent. There are at
-// most 32,768 nodes, so 16 bits hold a number. Node 0 has no parent: 0 stands there.
-#[derive(Clone, Copy)]
+// most 32,768 nodes, so 16 bits hold a number. Node 0 has no parent: 0 stands there, since an `Option` would make every
+// record longer. A link is a record's number, since all records lie in memory that the caller lends, with no heap for a Box.
+#[derive(Clone, Copy, PartialEq, Eq, Debug)]
 pub struct NodeRecord {
     pub(crate) parent: u16,
     pub(crate) symbol: u16,

@@ -3,8 +3,8 @@ ghost use Rattle.sibling_map.specs.Records.{edges_in, Parents, Symbols, Distinct
 
 use crate::record::NodeRecord;
 
-// A node map in lent records, one for each node. Where their number is none that it takes, it has the one room 1 and
-// uses no record.
+// A node map in lent records, one for each node. Where their number is none that it takes, it has the one room 1, which is
+// 2^0, and uses no record; as an `Option`, `room`, `last_room` and `double` would also have to ask whether there are records.
 #[derive(Drop)]
 pub struct SiblingMap<'a> {
     pub(crate) records: &'a mut [NodeRecord],

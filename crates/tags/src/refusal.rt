@@ -16,11 +16,12 @@ pub enum MapFault {
     LastRoom,
 }
 
-impl MapFault {
-    pub fn number(self) -> u8
-        ensures { result ≡ map_fault_number self }
-    {
-        match self {
+// Its number.
+impl From<MapFault> for u8 {
+    ghost from_gives = { λ fault number. number ≡ map_fault_number fault };
+
+    fn from(fault: MapFault) -> u8 {
+        match fault {
             MapFault::NoNode => 1,
             MapFault::SymbolTooLarge => 2,
             MapFault::PairTaken => 3,
@@ -59,11 +60,12 @@ pub enum Refusal {
     UnbalancedTally,
 }
 
-impl Refusal {
-    pub fn number(self) -> u8
-        ensures { result ≡ refusal_number self }
-    {
-        match self {
+// Its number.
+impl From<Refusal> for u8 {
+    ghost from_gives = { λ why number. number ≡ refusal_number why };
+
+    fn from(why: Refusal) -> u8 {
+        match why {
             Refusal::EmptyTag => 1,
             Refusal::LongTag => 2,
             Refusal::BadByte => 3,

@@ -1,4 +1,4 @@
-ghost use Rattle.std.specs.Prelude.{◌≡◌, ◌+◌, ◌≤◌, length, take, Some, MatchResult};
+ghost use Rattle.std.specs.Prelude.{◌≡◌, ◌+◌, ◌≤◌, length, take, Some, None, MatchResult};
 ghost use Rattle.tags.specs.Tags.{WellFormed, is_bad, any_bad, tag_refusal, checked, padded, tag_of, SpelledFrom};
 
 use crate::refusal::Refusal;
@@ -10,7 +10,7 @@ pub struct Tag<'a> {
     ghost form: { WellFormed bytes.now },
 }
 
-// The spelled form of a tag, at the beginning of the bytes; 0 follows.
+// The spelled form of a tag, at the beginning of the bytes; 0 follows. An array and a length, since nothing here has a heap.
 #[derive(Clone, Copy)]
 pub struct Spelled {
     bytes: [u8; 201],
@@ -22,7 +22,7 @@ pub struct Spelled {
 fn is_bad(byte: u8) -> bool
     ensures { result ≡ is_bad byte }
 {
-    byte == 0 || byte == 255
+    matches!(byte, 0 | 255)
 }
 
 // Looks at every byte, with no way out before the end, so that the compiler can look at many at a time.
@@ -40,7 +40,7 @@ fn any_bad(bytes: &[u8]) -> bool
 pub fn check(bytes: &[u8]) -> Result<(), Refusal>
     ensures { result ≡ checked bytes.now }
 {
-    if bytes.len() == 0 {
+    if bytes.is_empty() {
         return Err(Refusal::EmptyTag);
     }
     if bytes.len() > 200 {
@@ -58,19 +58,29 @@ fn close(tag: &[u8]) -> [u8; 201]
     ensures { result ≡ padded tag.now }
 {
     let mut bytes = [0; 201];
-    bytes[0..tag.len()].copy_from_slice(tag);
+    bytes[..tag.len()].copy_from_slice(tag);
     bytes
 }
 
+// The tag that bytes are, or why they are none.
+impl<'a> TryFrom<&'a [u8]> for Tag<'a> {
+    type Error = Refusal;
+
+    ghost try_from_gives = { λ bytes answer. MatchResult answer (λ tag. (tag_refusal bytes.now ≡ None) × (tag.bytes.now ≡ bytes.now)) (λ why. tag_refusal bytes.now ≡ Some why) };
+
+    fn try_from(bytes: &'a [u8]) -> Result<Tag<'a>, Refusal> {
+        check(bytes)?;
+        Ok(Tag { bytes })
+    }
+}
+
 impl<'a> Tag<'a> {
-    // The tag that checked bytes are. Bytes that `check` refuses give the tag `?`.
+    // The tag that checked bytes are, for a caller that has checked them: this cannot fail. Bytes that `check` refuses give
+    // the tag `?`.
     pub fn new(bytes: &'a [u8]) -> Tag<'a>
         ensures { result.bytes.now ≡ tag_of bytes.now }
     {
-        match check(bytes) {
-            Ok(()) => Tag { bytes },
-            Err(_) => Tag { bytes: b"?" },
-        }
+        Tag::try_from(bytes).unwrap_or(Tag { bytes: b"?" })
     }
 
     pub fn bytes(&self) -> &'a [u8]
@@ -90,18 +100,22 @@ impl<'a> Tag<'a> {
     }
 }
 
-impl Spelled {
-    // The spelled form of the tag that bytes are, or why they are none.
-    pub fn from_bytes(bytes: &[u8]) -> Result<Spelled, Refusal>
-        ensures { MatchResult result (λ form. SpelledFrom bytes.now form.bytes form.len) (λ why. tag_refusal bytes.now ≡ Some why) }
-    {
-        check(bytes)?;
-        Ok(Tag { bytes }.spelled())
-    }
+// The spelled form of the tag that bytes are, or why they are none.
+impl TryFrom<&[u8]> for Spelled {
+    type Error = Refusal;
 
+    ghost try_from_gives = { λ bytes answer. MatchResult answer (λ form. SpelledFrom bytes.now form.bytes form.len) (λ why. tag_refusal bytes.now ≡ Some why) };
+
+    fn try_from(bytes: &[u8]) -> Result<Spelled, Refusal> {
+        let tag = Tag::try_from(bytes)?;
+        Ok(tag.spelled())
+    }
+}
+
+impl Spelled {
     pub fn bytes(&self) -> &[u8]
         ensures { result.now ≡ take self.now.len self.now.bytes }
     {
-        &self.bytes[0..self.len]
+        &self.bytes[..self.len]
     }
 }

@@ -41,6 +41,9 @@ fn every_other_byte_passes(rt: HostRuntime) {
 fn a_tag_is_a_window(rt: HostRuntime) {
     assert_eq!(rt; Tag::new(b"technics").bytes(), b"technics".as_slice());
     assert_eq!(rt; Tag::new(b"").bytes(), b"?".as_slice());
+    let read = Tag::try_from(b"technics".as_slice());
+    assert_eq!(rt; read.map(|tag| tag.bytes()), Ok(b"technics".as_slice()));
+    assert!(rt; matches!(Tag::try_from(b"".as_slice()), Err(Refusal::EmptyTag)));
 }
 
 #[test]
@@ -57,6 +60,6 @@ fn spelled_forms(rt: HostRuntime) {
 #[test]
 fn ten_brings_the_map_fault(rt: HostRuntime) {
     let why = Refusal::NoNextRoom(MapFault::LastRoom);
-    assert_eq!(rt; why.number(), 10);
-    assert_eq!(rt; MapFault::LastRoom.number(), 5);
+    assert_eq!(rt; u8::from(why), 10);
+    assert_eq!(rt; u8::from(MapFault::LastRoom), 5);
 }

@@ -1,9 +1,7 @@
-use Rattle.std.proofs.Common.{ℕ, None, Option}
-use lib.ListN.{length-replicate}
-use Rattle.bench.proofs.Fresh.{printed_bench}
+use Rattle.std.proofs.Common.{rules, ℕ, List, subst}
+use Rattle.session.specs.Output.{Printed}
+use Rattle.bench.proofs.Fresh.{at_sizes}
 use Rattle.bench.proofs.print_bench.Goals as goal
 
 pub returns : goal.returns
-returns c =
-    printed_bench _ _ _ _ _ _ _ _ _ _ _ (length-replicate {A = ℕ} 14336 0) (length-replicate {A = ℕ} 16384 0) (length-replicate {A = ℕ} 1024 0) (length-replicate {A = Option ℕ} 1024 None)
-    c.new-map.ensures.meaning c.new-store.ensures.meaning c.new-shelf.ensures.blank c.print_list.ensures
+returns c = subst (λ (t : List ℕ). Printed t c.args.out.now c.print_list.new.out c.print_list.result) (at_sizes c.args.text.now) (search rules)

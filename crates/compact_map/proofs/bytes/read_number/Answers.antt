@@ -1,18 +1,14 @@
-use Rattle.std.proofs.Common.{ℕ, ◌+◌, ◌*◌, ◌^◌, ◌≤◌, get_or, sym, ap, ◌∙◌, arith, pow_mono}
-use Rattle.compact_map.proofs.Numbers.{number_none, number_more, grown_lt}
+use Rattle.std.proofs.Common.{ℕ, ◌*◌, ◌^◌, ◌<◌, rules, sym, ◌∙◌, subst, arith}
+use Rattle.std.proofs.lemmas.Iterator.{YieldsList-from_slice}
+use Rattle.std.proofs.lemmas.Iterator.Consumers.{fold_from_yields_List}
+use Rattle.compact_map.proofs.Numbers.{shifted, fold_number, number_lt}
 use Rattle.compact_map.proofs.bytes.read_number.Goals as goal
 
-pub loop-j-init : goal.loop-j-init
-loop-j-init c = (number_none c.args.bytes.now c.args.at, omega arith)
-
-pub overflow_mul-number : goal.overflow_mul-number
-overflow_mul-number c = let p : 2 ^ (8 * c.loop-j.j) ≤ 2 ^ 40 = pow_mono (let e : 8 * c.loop-j.j ≤ 40 = omega arith in e) in omega arith
-
-pub overflow_add-number-in-loop-j : goal.overflow_add-number-in-loop-j
-overflow_add-number-in-loop-j c = let p : 2 ^ (8 * c.loop-j.j) ≤ 2 ^ 40 = pow_mono (let e : 8 * c.loop-j.j ≤ 40 = omega arith in e) in omega arith
-
-pub loop-j-preserved : goal.loop-j-preserved
-loop-j-preserved c = (
-  ap (λ (x : ℕ). x * 256 + get_or c.args.bytes.now (c.args.at + c.loop-j.j) 0) c.loop-j.invariant.0 ∙ sym (number_more c.args.bytes.now c.args.at c.loop-j.j),
-  grown_lt c.loop-j.number (get_or c.args.bytes.now (c.args.at + c.loop-j.j) 0) c.loop-j.j c.loop-j.invariant.1 (omega arith),
-)
+pub returns : goal.returns
+returns g c =
+    let is = fold_from_yields_List _ shifted 0 _ c.fold.ensures.ran (YieldsList-from_slice _ c.iter.ensures.rest) (λ a x b q k. search rules)
+    ∙ fold_number c.args.bytes.now c.args.at g.row.N c.requires.short c.requires.inside (λ k. omega (arith, c.type_inv.bytes k)) in
+    record {
+      is = is;
+      small = subst (λ (x : ℕ). x < 2 ^ (8 * g.row.N)) (sym is) (number_lt c.args.bytes.now c.args.at g.row.N (λ k. omega (arith, c.type_inv.bytes k)));
+    }

@@ -1,6 +1,8 @@
 use Rattle.std.proofs.Common.{arith}
-use Rattle.compact_map.proofs.Numbers.{written_more}
+use Rattle.compact_map.proofs.Numbers.{write_word}
 use Rattle.compact_map.proofs.bytes.write_number.Goals as goal
 
-pub loop-j-preserved : goal.loop-j-preserved
-loop-j-preserved c = written_more c.args.count c.loop-j.j c.args.bytes.now c.loop-j.bytes c.args.at c.args.number (omega arith) c.loop-j.invariant
+pub returns : goal.returns
+returns g c =
+    write_word c.args.bytes.now c.to_be_bytes-word.result c.copy_from_slice.new.self c.args.at c.args.number g.row.N (omega arith) c.requires.inside c.to_be_bytes-word.ensures
+    c.copy_from_slice.ensures.after

@@ -19,12 +19,12 @@ returns-then-i-end g c = record {
       absurd (omega arith);
 }
 
-pub returns-in-Err : goal.returns-in-Err
-returns-in-Err g c = record {
+pub returns-in_default : goal.returns-in_default
+returns-in_default g c = record {
   place = omega arith;
   spelled = λ t.
       let v = c.loop-end.invariant in
-      let z = up_err _ _ _ c.in-Err.ensures (stage_inside _ _ _ t _ v.0 _ v.1 _ _ (v.3 t)) in
+      let z = up_err _ _ _ c.in_default.ensures (stage_inside _ _ _ t _ v.0 _ v.1 _ _ (v.3 t)) in
       c.lay.ensures.laid (stage_labelled _ _ _ t _ v.0 _ v.1 _ _ (v.3 t)) (top_enough _ _ _ t _ v.0 _ v.1 _ _ (v.3 t) z)
       ∙ top_stage _ _ _ t _ v.0 _ v.1 _ _ (v.3 t) z;
 }

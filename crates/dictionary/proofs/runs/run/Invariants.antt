@@ -1,6 +1,5 @@
-use Rattle.std.proofs.Common.{◌≡◌, ◌≤◌, ◌++◌, length, drop, replicate}
+use Rattle.std.proofs.Common.{◌≡◌, ◌≤◌, ◌++◌, length, drop, replicate, Err}
 use Rattle.tags.specs.declared.refusal.Refusal.TheVariants.{UnfitParts}
-use Rattle.rules.specs.declared.answers.Answer.TheVariants.{Refused}
 use Rattle.rules.specs.Calls.{Book}
 use Rattle.dictionary.specs.Runs.{made}
 use Rattle.dictionary.proofs.Running.{SoFar}
@@ -13,4 +12,4 @@ invariant-loop-i g l =
     → SoFar b (made l.calls l.initial.answers) l.initial.answers l.initial.memory l.i l.from l.answers l.memory (g.D.DictionaryCalls.shows l.d))
     × (g.D.DictionaryCalls.extent l.d ≡ g.D.DictionaryCalls.extent l.initial.d)
     × (g.D.DictionaryCalls.unfit l.initial.d
-    → (l.d ≡ l.initial.d) × (l.answers ≡ replicate l.i (Refused UnfitParts) ++ drop l.i l.initial.answers) × (l.memory ≡ l.initial.memory))
+    → (l.d ≡ l.initial.d) × (l.answers ≡ replicate l.i (Err UnfitParts) ++ drop l.i l.initial.answers) × (l.memory ≡ l.initial.memory))

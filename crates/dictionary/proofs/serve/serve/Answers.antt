@@ -1,17 +1,23 @@
-use Rattle.std.proofs.Common.{sym, ap, ◌∙◌, rules}
-use Rattle.dictionary.proofs.Fresh.{fit_of}
-use Rattle.dictionary.proofs.Alike.{unfit_of, served}
+use Rattle.std.proofs.Common.{sym, ap, ◌∙◌, inl, inr}
+use Rattle.dictionary.proofs.Alike.{served}
+use Rattle.dictionary.proofs.Fresh.{open_cases}
 use Rattle.dictionary.proofs.serve.serve.Goals as goal
 
-pub returns : goal.returns
-returns g c = record {
+pub returns-clause-ran : goal.returns-clause-ran
+returns-clause-ran g c = record {
   served = λ e.
-      let fit = c.new-d.ensures.fit ∙ fit_of (g.M.NodeMap.meaning c.args.map) (g.L.LabelStore.meaning c.args.store) (g.S.Shelf.meaning c.args.shelf) (sym e) in
-      let sh = c.new-d.ensures.shows fit in
-      served _ _ _ _ _ _ _ _ _ _ (c.run.ensures.ran _ (search (rules, fit), sh)) (c.run.ensures.shows _ (search (rules, fit), sh)).1;
+      let opened = c.new-d.ensures.opened ∙ e in
+      let sh = c.new-d.ensures.shows opened in
+      served _ _ _ _ _ _ _ _ _ _ (c.run.ensures.ran _ (opened, sh)) (c.run.ensures.shows _ (opened, sh)).1;
   refused = λ e.
-      let unfit = c.new-d.ensures.fit ∙ unfit_of (g.M.NodeMap.meaning c.args.map) (g.L.LabelStore.meaning c.args.store) (g.S.Shelf.meaning c.args.shelf) e in
-      let r = c.run.ensures.unfit unfit in
-      (r.1, (ap (λ d. d.map) r.0 ∙ c.new-d.ensures.parts.0, ap (λ d. d.store) r.0 ∙ c.new-d.ensures.parts.1, ap (λ d. d.shelf) r.0 ∙ c.new-d.ensures.kept unfit));
+      let opened = c.new-d.ensures.opened ∙ e in
+      let r = c.run.ensures.unfit opened in
+      (r.1, ap (λ d. d.parts) r.0 ∙ c.new-d.ensures.kept opened);
   stays = c.run.ensures.stays ∙ c.new-d.ensures.stays;
 }
+
+pub returns-clause-opened : goal.returns-clause-opened
+returns-clause-opened g c = elim (open_cases (g.M.NodeMap.meaning c.args.parts.map) (g.L.LabelStore.meaning c.args.parts.store) (g.S.Shelf.meaning c.args.parts.shelf)) [
+  | inl e ↦ let opened = c.new-d.ensures.opened ∙ e in (c.run.ensures.shows _ (opened, c.new-d.ensures.shows opened)).0 ∙ sym e
+  | inr e ↦ let opened = c.new-d.ensures.opened ∙ e in ap (λ d. d.opened) (c.run.ensures.unfit opened).0 ∙ c.new-d.ensures.opened
+]

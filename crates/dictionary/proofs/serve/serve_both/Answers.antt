@@ -4,7 +4,8 @@ use Rattle.dictionary.proofs.serve.serve_both.Goals as goal
 
 pub returns : goal.returns
 returns g c = record {
-  first = c.serve-first.ensures;
-  second = c.serve-second.ensures;
-  alike = λ e f. alike _ _ _ _ _ _ _ _ _ _ _ _ (record { step = refl; rows = refl }) (c.serve-first.ensures.served e).ran (c.serve-second.ensures.served f).ran;
+  first = c.serve-first.ensures.ran;
+  second = c.serve-second.ensures.ran;
+  opened = (c.serve-first.ensures.opened, c.serve-second.ensures.opened);
+  alike = λ e f. alike _ _ _ _ _ _ _ _ _ _ _ _ (record { step = refl; rows = refl }) (c.serve-first.ensures.ran.served e).ran (c.serve-second.ensures.ran.served f).ran;
 }

@@ -1,5 +1,4 @@
-use Rattle.std.proofs.Common.{◌≡◌, ℕ, ◌*◌, ◌/◌, ◌%◌, ◌^◌, ◌<◌, Ok, sym, subst, arith}
-use Rattle.parts.specs.Maps.{up_answer}
+use Rattle.std.proofs.Common.{◌*◌, ◌^◌, ◌<◌, sym, arith}
 use Rattle.parts.proofs.Answered.{up_zero, up_far, up_is}
 use Rattle.compact_map.specs.Table.{place_at}
 use Rattle.compact_map.specs.declared.shape.CompactMap.{CompactMap}
@@ -22,13 +21,12 @@ key_of-key-requires c =
     let s : CompactMap = c.args.self.now in
     let used : 2 < s.set.large = omega arith in
     let i : place_at (bytes_of s) (12 * s.set.large) c.args.v < 2 ^ s.set.log = (table_of s used).inside c.args.v (omega arith) (omega arith) in
-    record {
-      inside = (omega (arith, s.whole used), (omega arith, i));
-      near = (table_of s used).full.short (place_at (bytes_of s) (12 * s.set.large) c.args.v) i ((table_of s used).taken c.args.v (omega arith) (omega arith));
-    }
+    let t = (table_of s used).taken c.args.v (omega arith) (omega arith) in
+    rw (c.view.ensures.bytes, c.view.ensures.set)
+    (record { node = omega arith; place = i; taken = t; near = (table_of s used).full.short (place_at (bytes_of s) (12 * s.set.large) c.args.v) i t })
 
 pub returns : goal.returns
 returns c =
     let s : CompactMap = c.args.self.now in
-    subst (λ (x : ℕ). Ok (x / 8192, x % 8192) ≡ up_answer (meaning_of s) c.args.v) (sym c.key_of-key.ensures)
+    rw (c.key_of-key.ensures, c.view.ensures.bytes, c.view.ensures.set)
     (sym (up_is (meaning_of s) c.args.v _ c.if-v-eq0.false (omega (arith, count_is s)) (edge_at (keys_of s) s.later c.args.v (omega arith) (omega arith))))

@@ -20,18 +20,20 @@ pub find-requires : goal.find-requires
 find-requires c =
     let s : CompactMap = c.args.self.now in
     let used : 2 < s.set.large = omega arith in
-    (omega (arith, s.whole used), (table_of s used).full)
+    rw (c.view.ensures.bytes, c.view.ensures.set) (table_of s used).full
 
-pub returns-in-Some : goal.returns-in-Some
-returns-in-Some c =
+pub returns-in_err-v : goal.returns-in_err-v
+returns-in_err-v c =
     let s : CompactMap = c.args.self.now in
     let used : 2 < s.set.large = omega arith in
     let low : c.args.u ≤ s.later = omega (arith, count_is s) in
-    child_is s used c.args.u c.args.c low c.requires.1 (Some c.in-Some.v) c.in-Some.ensures
+    let f = rw (c.view.ensures.bytes, c.view.ensures.set, c.from.ensures) at c.in_err-v.ensures in
+    rw c.from_residual.ensures (child_is s used c.args.u c.args.c low c.requires.1 None f)
 
-pub returns-in-None : goal.returns-in-None
-returns-in-None c =
+pub returns : goal.returns
+returns c =
     let s : CompactMap = c.args.self.now in
     let used : 2 < s.set.large = omega arith in
     let low : c.args.u ≤ s.later = omega (arith, count_is s) in
-    child_is s used c.args.u c.args.c low c.requires.1 None c.in-None.ensures
+    let f = rw (c.view.ensures.bytes, c.view.ensures.set, c.from.ensures) at c.in_ok-v.ensures in
+    rw c.from-2.ensures (child_is s used c.args.u c.args.c low c.requires.1 (Some c.in_ok-v.v) f)

@@ -1,4 +1,4 @@
-use Rattle.std.proofs.Common.{◌≡◌, ℕ, ◌+◌, ◌*◌, ◌^◌, ◌<◌, ◌≤◌, List, length, Ok, sym, ap, ◌∙◌, subst, ap₂, arith}
+use Rattle.std.proofs.Common.{◌≡◌, ℕ, ◌+◌, ◌*◌, ◌^◌, ◌<◌, ◌≤◌, List, length, Ok, sym, refl, ap, ◌∙◌, subst, ap₂, arith}
 use Rattle.rules.specs.declared.step.Step.TheVariants.{By32}
 use Rattle.rules.specs.Tree.{Edge}
 use Rattle.parts.specs.Maps.{Map, double_answer, double_next}
@@ -15,17 +15,12 @@ use Rattle.compact_map.proofs.Memories.{map_of}
 use Rattle.compact_map.proofs.Meant.{stored_of, wider, doubled_stored, doubled_edges, doubled_memory}
 use Rattle.compact_map.proofs.shape.CompactMap.widen.Goals as goal
 
--- there is a next room, in the map that was taken out
-more : (s t : CompactMap) → s ≡ t → t.set.log < t.top → s.set.log < s.top
-more s t e h = subst (λ (x : CompactMap). x.set.log < x.top) (sym e) h
-
-pub double-set-requires : goal.double-set-requires
-double-set-requires c =
-    let s : CompactMap = c.take-bytes.result in
-    let m : s.set.log < s.top = more s c.args.self.now c.take-bytes.ensures c.requires in
-    let w : 2 * s.set.slots ≤ s.set.large = wider s m in
+pub double-self-requires : goal.double-self-requires
+double-self-requires c =
+    let s : CompactMap = c.args.self.now in
+    let w : 2 * s.set.slots ≤ s.set.large = wider s c.requires in
     let used : 2 < s.set.large = omega arith in
-    (omega (arith, s.whole used), (w, (omega arith, (omega arith, stored_of s used))))
+    record { inside = omega (arith, s.whole used); wider = w; small = omega arith; room = omega arith; stored = stored_of s used }
 
 -- the bytes, by the set that is in use now
 module _ (s : CompactMap) (set : Set) (new : List ℕ) (m : s.set.log < s.top) (el : set.log ≡ s.set.log + 1) (eg : set.large ≡ s.set.large) (long : length new ≡ length (bytes_of s))
@@ -58,21 +53,20 @@ module _ (s : CompactMap) (set : Set) (new : List ℕ) (m : s.set.log < s.top) (
 
 pub invariant_of-self : goal.invariant_of-self
 invariant_of-self c =
-    let s : CompactMap = c.take-bytes.result in
-    let t : Set = c.double-set.result in
-    let m : s.set.log < s.top = more s c.args.self.now c.take-bytes.ensures c.requires in
-    let w : 2 * s.set.slots ≤ s.set.large = wider s m in
-    let el : t.log ≡ s.set.log + 1 = c.double-set.ensures.log in
-    let eg : t.large ≡ s.set.large = c.double-set.ensures.large in
+    let s : CompactMap = c.args.self.now in
+    let t : Set = c.double-self.result in
+    let w : 2 * s.set.slots ≤ s.set.large = wider s c.requires in
+    let el : t.log ≡ s.set.log + 1 = c.double-self.ensures.log in
+    let eg : t.large ≡ s.set.large = c.double-self.ensures.large in
     let p : 2 ^ t.log ≡ 2 * 2 ^ s.set.log = ap (λ (x : ℕ). 2 ^ x) el ∙ pow_more s.set.log in
-    let g : Stored By32 t.log t.large s.later c.double-set.new.bytes
-    = stored_now s t c.double-set.new.bytes m el eg c.double-set.auto.bytes c.double-set.ensures.filled in
+    let g : Stored By32 t.log t.large s.later c.double-self.new.bytes
+    = stored_now s t c.double-self.new.bytes c.requires el eg c.double-self.auto.bytes c.double-self.ensures.filled in
     record {
       wide = eg ∙ s.wide;
       rooms = omega arith;
       most = s.most;
       least = λ used. omega (arith, s.least (let q : 2 < s.set.large = omega arith in q));
-      whole = λ used. c.double-set.auto.bytes ∙ s.whole (let q : 2 < s.set.large = omega arith in q) ∙ ap (λ (x : ℕ). 14 * x) (sym eg);
+      whole = λ used. c.double-self.auto.bytes ∙ s.whole (let q : 2 < s.set.large = omega arith in q) ∙ ap (λ (x : ℕ). 14 * x) (sym eg);
       refused = λ k h. omega (arith, h.0);
       fits = omega arith;
       apart = λ u v h. g.keys.apart u v h.0 h.1 h.2 h.3 h.4;
@@ -82,18 +76,14 @@ invariant_of-self c =
 
 pub returns : goal.returns
 returns c =
-    let s : CompactMap = c.take-bytes.result in
-    let t : Set = c.double-set.result in
-    let m : s.set.log < s.top = more s c.args.self.now c.take-bytes.ensures c.requires in
-    let el : t.log ≡ s.set.log + 1 = c.double-set.ensures.log in
-    let eg : t.large ≡ s.set.large = c.double-set.ensures.large in
+    let s : CompactMap = c.args.self.now in
+    let t : Set = c.double-self.result in
+    let el : t.log ≡ s.set.log + 1 = c.double-self.ensures.log in
+    let eg : t.large ≡ s.set.large = c.double-self.ensures.large in
     record {
-      answer = ap Ok (c.room_of.ensures ∙ ap capacity (t.wide ∙ ap (λ (x : ℕ). 2 ^ x) el))
-          ∙ sym (next_is s t c.double-set.new.bytes m el eg c.double-set.auto.bytes c.double-set.ensures.filled).0
-          ∙ ap (λ (x : CompactMap). double_answer (meaning_of x)) c.take-bytes.ensures;
-      next = meaning_now s t c.double-set.new.bytes m el eg c.double-set.auto.bytes c.double-set.ensures.filled
-          ∙ ap (λ (x : CompactMap). double_next (meaning_of x)) c.take-bytes.ensures;
-      memory = memory_now s t c.double-set.new.bytes m el eg c.double-set.auto.bytes c.double-set.ensures.filled
-          ∙ ap (λ (x : CompactMap). memory_of By32 (map_of (key_in By32 c.double-set.new.bytes t.log t.large) s.later t.log s.top) (bytes_of x)) c.take-bytes.ensures;
-      lender = ap (λ (x : CompactMap). x.bytes.ghost_name) c.take-bytes.ensures;
+      answer = ap Ok (c.room.ensures ∙ ap (λ (x : ℕ). capacity (2 ^ x)) el)
+          ∙ sym (next_is s t c.double-self.new.bytes c.requires el eg c.double-self.auto.bytes c.double-self.ensures.filled).0;
+      next = meaning_now s t c.double-self.new.bytes c.requires el eg c.double-self.auto.bytes c.double-self.ensures.filled;
+      memory = memory_now s t c.double-self.new.bytes c.requires el eg c.double-self.auto.bytes c.double-self.ensures.filled;
+      lender = refl;
     }

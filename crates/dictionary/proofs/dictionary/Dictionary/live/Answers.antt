@@ -1,29 +1,21 @@
-use Rattle.std.proofs.Common.{Ok, sym, ap, ◌∙◌}
+use Rattle.std.proofs.Common.{ap, ◌∙◌}
 use Rattle.std.proofs.lemmas.Result.{err_from_is_err_and}
-use Rattle.dictionary.proofs.Answered.{ok_not, err_as}
+use Rattle.std.specs.Option.{ok_or}
+use Rattle.tags.specs.declared.refusal.Refusal.TheVariants.{NoLiveRow}
+use Rattle.dictionary.proofs.Answered.{err_is}
 use Rattle.dictionary.proofs.Taking.{held_answer, absent_answer, refused_answer}
 use Rattle.dictionary.proofs.dictionary.Dictionary.live.Goals as goal
 
-pub returns-in-Held : goal.returns-in-Held
-returns-in-Held g c = let found = c.in_ok-found.ensures in record {
-  answer = λ t b sh. held_answer b _ _ _ _ (ap Ok (sym c.in-Held.is) ∙ found.answer b (t, sh));
-  facts = c.count.ensures.facts;
-  unfit = λ f. absurd (ok_not (found.unfit f));
-}
-
-pub returns-in-Absent : goal.returns-in-Absent
-returns-in-Absent g c = let found = c.in_ok-found.ensures in record {
-  answer = λ t b sh. absent_answer b _ _ (ap Ok (sym c.in-Absent.is) ∙ found.answer b (t, sh));
-  facts = c.count.ensures.facts;
-  unfit = λ f. absurd (ok_not (found.unfit f));
-}
-
-pub returns-in_err-found : goal.returns-in_err-found
-returns-in_err-found g c =
-    let found = c.in_err-found.ensures in
+pub returns-in_err-found-clause-answer : goal.returns-in_err-found-clause-answer
+returns-in_err-found-clause-answer g c = λ t b sh.
     let p = err_from_is_err_and c.from_residual.result c.from_residual.ensures.1 in
-    rw (p.1, p.2) (record {
-      answer = λ t b sh. refused_answer b _ _ (found.answer b (t, sh));
-      facts = c.count.ensures.facts;
-      unfit = λ f. err_as (found.unfit f);
-    })
+    rw (p.1, p.2) (refused_answer b _ _ (c.in_err-found.ensures.answer b (t, sh)))
+
+pub returns-in_err-row-clause-answer : goal.returns-in_err-row-clause-answer
+returns-in_err-row-clause-answer g c = λ t b sh.
+    let p = err_from_is_err_and c.from_residual-in_err-row.result c.from_residual-in_err-row.ensures.1 in
+    let why = err_is (c.in_err-row.ensures.value ∙ ap (λ held. ok_or held NoLiveRow) c.in_err-row.ensures.ok_part) in
+    rw (p.1, p.2, why) (absent_answer b _ _ (c.in_ok-found.ensures.answer b (t, sh)) c.in_err-row.ensures.ok_part)
+
+pub returns-clause-answer : goal.returns-clause-answer
+returns-clause-answer g c = λ t b sh. held_answer b _ _ (c.in_ok-found.ensures.answer b (t, sh)) _ c.in_ok-row.ensures.ok_part

@@ -1,65 +1,56 @@
-use Rattle.std.proofs.Common.{◌≡◌, ℕ, ◌+◌, ◌^◌, ◌<◌, ◌≤◌, List, length, set, None, Ok, Err, Option, Result, sym, refl, ap, ◌∙◌, arith, length-set}
+use Rattle.std.proofs.Common.{rules, ◌≡◌, ℕ, ◌+◌, ◌^◌, ◌<◌, ◌≤◌, List, length, set, false, is_some, None, Ok, Err, Option, Result, sym, refl, ap, ◌∙◌, arith, length-set}
 use Rattle.std.proofs.lemmas.Result.{err_from_is_err_and}
 use Rattle.std.proofs.lemmas.Bool.{true≢false}
 use Rattle.tags.specs.declared.refusal.MapFault.{MapFault}
 use Rattle.rules.specs.declared.step.Step.TheVariants.{By32}
 use Rattle.rules.specs.Tree.{Edge, edge_of, child}
-use Rattle.parts.specs.Maps.{Map, MapFacts, count_of, add_answer, add_next, with_edge}
+use Rattle.parts.specs.Maps.{Map, MapFacts, count_of, asked, add_answer, add_next, with_edge}
 use Rattle.parts.specs.Sizes.{rooms_to}
 use Rattle.parts.proofs.Children.{no_child, count_more, facts_more}
-use Rattle.parts.proofs.Answered.{add_out, add_taken, add_full, add_made, next_kept, next_made}
+use Rattle.parts.proofs.Answered.{some_is, none_is, add_out, add_taken, add_full, add_made, next_kept, next_made}
 use Rattle.sibling_map.specs.declared.record.NodeRecord.{NodeRecord}
 use Rattle.sibling_map.specs.declared.shape.SiblingMap.{SiblingMap}
-use Rattle.sibling_map.specs.Meaning.{capacity, meaning_of, records_for, add_records, pair_answer}
+use Rattle.sibling_map.specs.Meaning.{capacity, meaning_of, records_for, add_records}
 use Rattle.sibling_map.proofs.Read.{laid_at}
 use Rattle.sibling_map.proofs.Linked.{linked, edges_linked, at_linked, laid_linked, at_beyond, edges_beyond}
-use Rattle.sibling_map.proofs.Facts.{count_is, facts_of, pair_out, pair_in_lem, in_use, inside, Held, held}
+use Rattle.sibling_map.proofs.Facts.{count_is, facts_of, pair_in_lem, in_use, inside, Held, held}
 use Rattle.sibling_map.proofs.map.SiblingMapNodeMap.add.Goals as goal
 
--- a fault leaves the records
-memory_kept : (s : SiblingMap) (u c : ℕ) (fault : MapFault) → add_answer By32 (meaning_of s) u c ≡ Err fault → s.records.now ≡ add_records s u c
-memory_kept s u c fault a = sym (ap (λ (x : Result ℕ MapFault). records_for x (add_next By32 (meaning_of s) u c).edges s.records.now) a)
+-- a fault leaves the map and its records
+refused : (s : SiblingMap) (u c : ℕ) (fault : MapFault) → add_answer By32 (meaning_of s) u c ≡ Err fault
+    → (Err fault ≡ add_answer By32 (meaning_of s) u c) × (meaning_of s ≡ add_next By32 (meaning_of s) u c) × (s.records.now ≡ add_records s u c)
+refused s u c fault a =
+    (sym a, sym (next_kept By32 (meaning_of s) u c fault a), sym (ap (λ (x : Result ℕ MapFault). records_for x (add_next By32 (meaning_of s) u c).edges s.records.now) a))
 
 pub returns-in_err-check_pair : goal.returns-in_err-check_pair
 returns-in_err-check_pair c =
     let s : SiblingMap = c.args.self.now in
     let p = err_from_is_err_and c.from_residual.result c.from_residual.ensures.1 in
-    let a = add_out By32 (meaning_of s) c.args.u c.args.c _ (pair_out s c.args.u c.args.c _ c.in_err-check_pair.ensures) in
-    rw (p.1, p.2)
-    (record {
-      answer = sym a;
-      next = sym (next_kept By32 (meaning_of s) c.args.u c.args.c _ a);
-      kept = λ e. refl;
-      memory = memory_kept s c.args.u c.args.c _ a;
-      lender = refl;
-    })
+    let a = add_out By32 (meaning_of s) c.args.u c.args.c _ (sym c.in_err-check_pair.ensures) in
+    let r = refused s c.args.u c.args.c _ a in
+    rw (p.1, p.2) (record { answer = r.0; next = r.1; kept = λ e. refl; memory = r.2; lender = refl })
 
-pub returns-in-Some : goal.returns-in-Some
-returns-in-Some c =
+pub find-requires : goal.find-requires
+find-requires c =
     let s : SiblingMap = c.args.self.now in
     let h = pair_in_lem s c.args.u c.args.c c.in_ok-check_pair.ensures in
-    let a = add_taken By32 (meaning_of s) c.args.u c.args.c _ h.0 h.1 (sym c.find.ensures ∙ c.in-Some.is) in
-    record {
-      answer = sym a;
-      next = sym (next_kept By32 (meaning_of s) c.args.u c.args.c _ a);
-      kept = λ e. refl;
-      memory = memory_kept s c.args.u c.args.c _ a;
-      lender = refl;
-    }
+    omega (arith, h.0, count_is s.records.now s.later)
+
+pub returns-then-is_some : goal.returns-then-is_some
+returns-then-is_some c =
+    let s : SiblingMap = c.args.self.now in
+    let h = pair_in_lem s c.args.u c.args.c c.in_ok-check_pair.ensures in
+    let v = some_is c.find.result c.if-is_some.ensures in
+    let a = add_taken By32 (meaning_of s) c.args.u c.args.c v.0 h.0 h.1 (sym c.find.ensures ∙ v.1) in
+    let r = refused s c.args.u c.args.c _ a in record { answer = r.0; next = r.1; kept = λ e. refl; memory = r.2; lender = refl }
 
 pub returns-then-v-room_at : goal.returns-then-v-room_at
 returns-then-v-room_at c =
     let s : SiblingMap = c.args.self.now in
     let h = pair_in_lem s c.args.u c.args.c c.in_ok-check_pair.ensures in
     let full : 2 ^ s.log ≤ count_of (meaning_of s) = omega (arith, count_is s.records.now s.later) in
-    let a = add_full By32 (meaning_of s) c.args.u c.args.c h.0 h.1 (sym c.find.ensures ∙ c.in_default.is) full in
-    record {
-      answer = sym a;
-      next = sym (next_kept By32 (meaning_of s) c.args.u c.args.c _ a);
-      kept = λ e. refl;
-      memory = memory_kept s c.args.u c.args.c _ a;
-      lender = refl;
-    }
+    let a = add_full By32 (meaning_of s) c.args.u c.args.c h.0 h.1 (sym c.find.ensures ∙ none_is c.find.result c.if-is_some.ensures) full in
+    let r = refused s c.args.u c.args.c _ a in record { answer = r.0; next = r.1; kept = λ e. refl; memory = r.2; lender = refl }
 
 -- what the way to the writes has tested
 record Way (s : SiblingMap) (u c : ℕ) : Type 0 where
@@ -69,11 +60,11 @@ record Way (s : SiblingMap) (u c : ℕ) : Type 0 where
   answer : add_answer By32 (meaning_of s) u c ≡ Ok (s.later + 1)
   facts : MapFacts By32 (with_edge (meaning_of s) u c)
 
-way : (s : SiblingMap) (u c room : ℕ) (found : Option ℕ) → Ok tt ≡ pair_answer (s.later + 1) u c → found ≡ child (meaning_of s).edges u c
-    → found ≡ None → room ≡ 2 ^ s.log → s.later + 1 < room → Way s u c
+way : (s : SiblingMap) (u c room : ℕ) (found : Option ℕ) → Ok tt ≡ asked {A = Unit {0}} By32 (meaning_of s) u c (Ok tt) → found ≡ child (meaning_of s).edges u c
+    → false ≡ is_some found → room ≡ 2 ^ s.log → s.later + 1 < room → Way s u c
 way s u c room found asked is none e less =
     let h = pair_in_lem s u c asked in
-    let free : child (meaning_of s).edges u c ≡ None = sym is ∙ none in
+    let free : child (meaning_of s).edges u c ≡ None = sym is ∙ none_is found none in
     let used : 0 < s.top = in_use s (omega arith) in
     let left : count_of (meaning_of s) < 2 ^ s.log = omega (arith, count_is s.records.now s.later) in
     record {
@@ -104,11 +95,11 @@ held_linked s u c y =
     (λ v used h. at_linked s.records.now s.later u c y.low y.room s.top s.laid used (parents_of s u c y) v h)
 
 pub bounds-self-u : goal.bounds-self-u
-bounds-self-u c = let y = way c.args.self.now c.args.u c.args.c c.room_at.result _ c.in_ok-check_pair.ensures c.find.ensures c.in_default.is c.room_at.ensures (omega arith) in
+bounds-self-u c = let y = way c.args.self.now c.args.u c.args.c c.room_at.result _ c.in_ok-check_pair.ensures c.find.ensures c.if-is_some.ensures c.room_at.ensures (omega arith) in
     omega (arith, y.low, y.room)
 
 pub bounds-self-v : goal.bounds-self-v
-bounds-self-v c = let y = way c.args.self.now c.args.u c.args.c c.room_at.result _ c.in_ok-check_pair.ensures c.find.ensures c.in_default.is c.room_at.ensures (omega arith) in y.room
+bounds-self-v c = let y = way c.args.self.now c.args.u c.args.c c.room_at.result _ c.in_ok-check_pair.ensures c.find.ensures c.if-is_some.ensures c.room_at.ensures (omega arith) in y.room
 
 pub invariant_of-self : goal.invariant_of-self
 invariant_of-self c =
@@ -125,12 +116,12 @@ invariant_of-self c =
     }
 
 pub bounds-self-u-2 : goal.bounds-self-u-2
-bounds-self-u-2 c = let y = way c.args.self.now c.args.u c.args.c c.room_at.result _ c.in_ok-check_pair.ensures c.find.ensures c.in_default.is c.room_at.ensures (omega arith) in simp length-set (omega (arith, y.low, y.room))
+bounds-self-u-2 c = let y = way c.args.self.now c.args.u c.args.c c.room_at.result _ c.in_ok-check_pair.ensures c.find.ensures c.if-is_some.ensures c.room_at.ensures (omega arith) in simp length-set (omega (arith, y.low, y.room))
 
 pub invariant_of-self-2 : goal.invariant_of-self-2
 invariant_of-self-2 c =
     let s : SiblingMap = c.args.self.now in
-    let k = held_linked s c.args.u c.args.c (way c.args.self.now c.args.u c.args.c c.room_at.result _ c.in_ok-check_pair.ensures c.find.ensures c.in_default.is c.room_at.ensures (omega arith)) in
+    let k = held_linked s c.args.u c.args.c (way c.args.self.now c.args.u c.args.c c.room_at.result _ c.in_ok-check_pair.ensures c.find.ensures c.if-is_some.ensures c.room_at.ensures (omega arith)) in
     record {
       fits = omega arith;
       rooms = s.rooms;
@@ -147,7 +138,7 @@ returns c =
     let s : SiblingMap = c.args.self.now in
     let u : ℕ = c.args.u in
     let b : ℕ = c.args.c in
-    let y : Way s u b = way c.args.self.now c.args.u c.args.c c.room_at.result _ c.in_ok-check_pair.ensures c.find.ensures c.in_default.is c.room_at.ensures (omega arith) in
+    let y : Way s u b = way c.args.self.now c.args.u c.args.c c.room_at.result _ c.in_ok-check_pair.ensures c.find.ensures c.if-is_some.ensures c.room_at.ensures (omega arith) in
     let n : add_next By32 (meaning_of s) u b ≡ with_edge (meaning_of s) u b = next_made By32 (meaning_of s) u b _ y.answer in
     record {
       answer = sym y.answer;
@@ -159,3 +150,9 @@ returns c =
           ∙ ap (λ (m : Map). records_for (Ok (s.later + 1)) m.edges s.records.now) n);
       lender = refl;
     }
+
+pub overflow_cast-self : goal.overflow_cast-self
+overflow_cast-self c =
+    let s : SiblingMap = c.args.self.now in
+    let low : c.args.u ≤ s.later = (way s c.args.u c.args.c c.room_at.result _ c.in_ok-check_pair.ensures c.find.ensures c.if-is_some.ensures c.room_at.ensures (omega arith)).low in
+    search rules

@@ -1,17 +1,23 @@
-use Rattle.std.proofs.Common.{sym}
+use Rattle.std.proofs.Common.{sym, arith}
 use Rattle.std.proofs.lemmas.Result.{err_from_is_err_and}
 use Rattle.rules.specs.declared.step.Step.TheVariants.{By32}
 use Rattle.parts.proofs.Answered.{child_in, child_out}
 use Rattle.sibling_map.specs.declared.shape.SiblingMap.{SiblingMap}
 use Rattle.sibling_map.specs.Meaning.{meaning_of}
-use Rattle.sibling_map.proofs.Facts.{pair_out, pair_in_lem}
+use Rattle.sibling_map.proofs.Facts.{count_is, pair_in_lem}
 use Rattle.sibling_map.proofs.map.SiblingMapNodeMap.child.Goals as goal
 
 pub returns-in_err-check_pair : goal.returns-in_err-check_pair
 returns-in_err-check_pair c =
     let s : SiblingMap = c.args.self.now in
     let p = err_from_is_err_and c.from_residual.result c.from_residual.ensures.1 in
-    rw (p.1, p.2) (sym (child_out By32 (meaning_of s) c.args.u c.args.c _ (pair_out s c.args.u c.args.c _ c.in_err-check_pair.ensures)))
+    rw (p.1, p.2) (sym (child_out By32 (meaning_of s) c.args.u c.args.c _ (sym c.in_err-check_pair.ensures)))
+
+pub find-requires : goal.find-requires
+find-requires c =
+    let s : SiblingMap = c.args.self.now in
+    let h = pair_in_lem s c.args.u c.args.c c.in_ok-check_pair.ensures in
+    omega (arith, h.0, count_is s.records.now s.later)
 
 pub returns : goal.returns
 returns c =

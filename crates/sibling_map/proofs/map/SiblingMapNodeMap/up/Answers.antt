@@ -27,5 +27,5 @@ pub returns : goal.returns
 returns c =
     let s : SiblingMap = c.args.self.now in
     let some : c.args.v ≡ 0 → ⊥ = c.if-v-eq0.false in
-    sym (up_is (meaning_of s) c.args.v _ some (omega (arith, count_is s.records.now s.later))
-    (edge_in_lem s.records.now s.later c.args.v (omega arith) c.if-v-self.false))
+    rw c.from.ensures (sym (up_is (meaning_of s) c.args.v _ some (omega (arith, count_is s.records.now s.later))
+    (edge_in_lem s.records.now s.later c.args.v (omega arith) c.if-v-self.false)))

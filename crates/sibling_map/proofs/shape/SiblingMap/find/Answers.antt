@@ -64,9 +64,9 @@ pub returns-then-record-c : goal.returns-then-record-c
 returns-then-record-c c =
     let s : SiblingMap = c.args.self.now in
     let h = here s c.args.u c.args.c c.in-Some.v c.loop-at.at c.loop-at.invariant c.in-Some.is in
-    sym (child_some By32 (meaning_of s) c.args.u c.args.c c.in-Some.v (facts_of s) h.some
+    rw c.from.ensures (sym (child_some By32 (meaning_of s) c.args.u c.args.c c.in-Some.v (facts_of s) h.some
     (omega (arith, h.high, count_is s.records.now s.later)) h.parent
-    (ap (λ (x : Edge). x.symbol) h.edge ∙ c.if-record-c.true))
+    (ap (λ (x : Edge). x.symbol) h.edge ∙ c.if-record-c.true)))
 
 goes : (c : goal.Else-record-c) →
     Walk (edges_in c.args.self.now.records.now c.args.self.now.later) c.args.u c.args.c (at c.args.self.now.records.now c.in-Some.v).next

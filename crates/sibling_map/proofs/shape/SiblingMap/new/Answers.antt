@@ -1,7 +1,7 @@
-use Rattle.std.proofs.Common.{◌≡◌, ℕ, ◌*◌, ◌^◌, ◌<◌, ◌≤◌, length, Some, None, Option, refl, ap, ◌∙◌, arith, length-set, pow_mono}
+use Rattle.std.proofs.Common.{◌≡◌, ℕ, ◌*◌, ◌^◌, ◌<◌, ◌≤◌, length, None, Option, refl, ap, arith, length-set, pow_mono}
 use Rattle.parts.specs.Sizes.{power_for, rooms_after, map_for}
 use Rattle.sibling_map.specs.Meaning.{capacity, start_records}
-use Rattle.sibling_map.proofs.Start.{start_laid, start_out}
+use Rattle.sibling_map.proofs.Start.{start_laid}
 use Rattle.sibling_map.proofs.shape.SiblingMap.new.Goals as goal
 
 -- the number of records that a map uses
@@ -27,14 +27,4 @@ invariant_of-result-2 c =
       symbols = λ v h. omega arith;
       distinct = λ v w h. omega (arith, h.0, h.1, h.2, h.3);
       laid = start_laid c.args.records.now some c.in-Some.top;
-    }
-
-pub returns : goal.returns
-returns c =
-    let e : Some c.in-Some.top ≡ power_for (length c.args.records.now) 1 = c.in-Some.ensures.power in
-    let some : 0 < length c.args.records.now = enough _ _ c.in-Some.ensures.relation.0 c.in-Some.ensures.relation.1 in
-    record {
-      meaning = ap (map_for capacity) e;
-      memory = start_out c.args.records.now some ∙ ap (λ (o : Option ℕ). start_records o c.args.records.now) e;
-      lender = refl;
     }
