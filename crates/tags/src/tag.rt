@@ -10,7 +10,8 @@ pub struct Tag<'a> {
     ghost form: { WellFormed bytes.now },
 }
 
-// The spelled form of a tag, at the beginning of the bytes; 0 follows. An array and a length, since nothing here has a heap.
+// The spelled form of a tag, at the beginning of the bytes; 0 follows. An array and a length: nothing here has a heap, and
+// what is promised of all 201 bytes, an `ArrayVec` does not have behind its length.
 #[derive(Clone, Copy)]
 pub struct Spelled {
     bytes: [u8; 201],
