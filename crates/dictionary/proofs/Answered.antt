@@ -70,9 +70,6 @@ module _ (edges : List Edge) where
   at_step : (o : Option ℕ) (u c : ℕ) → c ≡ step_symbol By32 → o ≡ child edges u c → child edges u (step_symbol By32) ≡ o
   at_step o u c z e = ap (λ (q : ℕ). child edges u q) (sym z) ∙ sym e
 
-  pub stepped_first : (k u missing : ℕ) → missing ≡ k → u < node_count edges → Stepped k u missing u
-  stepped_first k u missing e h = rw e (record { inside = h; rest = refl })
-
   pub stepped_more : (k u missing fewer node c v : ℕ) → fewer ≡ missing - 1 → 0 < missing → Stepped k u missing node → c ≡ step_symbol By32 → Some v ≡ child edges node c → Stepped k u fewer v
   stepped_more k u missing fewer node c v f h s z e = rw f (record {
     inside = child_in node c v (sym e);

@@ -1,8 +1,8 @@
 -- a shelf blanked place by place, and the book of a dictionary just opened
-use Rattle.std.proofs.Common.{◌≡◌, ℕ, ◌+◌, ◌<◌, ◌≤◌, Bool, true, false, cond, ◌&&◌, eqb, leb, List, [], ◌∷◌, length, get_or, set, None, Ok, Err, Option, Result, sym, refl, ap, ◌∙◌, inl, inr, arith, length-set, get_or-set_other, get_or-set_same, ◌⊎◌}
+use Rattle.std.proofs.Common.{◌≡◌, ℕ, ◌<◌, ◌≤◌, Bool, true, false, cond, ◌&&◌, eqb, leb, List, [], ◌∷◌, length, get_or, None, Ok, Err, Option, Result, sym, refl, ap, ◌∙◌, inl, inr, arith, ◌⊎◌}
 use lib.ListN.{length-replicate}
-use Rattle.std.proofs.lemmas.List.{same_lists, get_or_default, get_or-replicate, get_or_past}
-use Rattle.std.proofs.lemmas.Bool.{cases_eq, cases_lt, eqb-true, leb-true, and_parts}
+use Rattle.std.proofs.lemmas.List.{same_lists, get_or_default, get_or-replicate}
+use Rattle.std.proofs.lemmas.Bool.{eqb-true, leb-true, and_parts}
 use Rattle.tags.specs.declared.refusal.Refusal.{Refusal}
 use Rattle.tags.specs.declared.refusal.Refusal.TheVariants.{UnfitParts}
 use Rattle.rules.specs.declared.step.Step.TheVariants.{By32}
@@ -15,16 +15,6 @@ use Rattle.parts.specs.Shelves.{blanks}
 use Rattle.dictionary.specs.Shows.{tree_in, value_with, Shows, fits, open_answer, fresh_book}
 
 module _ {V : Type 0} where
-  -- one place more is blank
-  pub blank_more : (s s' : List (Option V)) (n : ℕ) → s' ≡ set s n None → ((j : ℕ) → j < n → get_or s j None ≡ None) → (j : ℕ) → j < n + 1 → get_or s' j None ≡ None
-  blank_more s s' n e f j h = ap (λ (q : List (Option V)). get_or q j None) e ∙ elim (cases_eq j n) [
-    | inr d ↦ get_or-set_other s n j None None d ∙ f j (omega arith)
-    | inl d ↦ elim (cases_lt n (length s)) [
-      | inl k ↦ ap (λ (q : ℕ). get_or (set s n None) q None) d ∙ get_or-set_same s n None None k
-      | inr k ↦ get_or_past (set s n None) j None (omega (arith, length-set s n None))
-    ]
-  ]
-
   pub blank_all : (s s₀ : List (Option V)) (n : ℕ) → length s ≡ length s₀ → length s₀ ≤ n → ((j : ℕ) → j < n → get_or s j None ≡ None) → s ≡ blanks (length s₀)
   blank_all s s₀ n e k f = same_lists s (blanks (length s₀)) (e ∙ sym (length-replicate (length s₀) None))
       (λ j d h. get_or_default s j d None h ∙ f j (omega (arith, e)) ∙ sym (get_or-replicate (length s₀) j None d (omega (arith, e))))
