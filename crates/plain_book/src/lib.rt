@@ -164,6 +164,11 @@ impl<'a, V: Copy> Book<'a, V> {
         self.rows.len()
     }
 
+    /// The current room; there is none where the parts do not fit.
+    pub fn room(&self) -> Option<usize> {
+        self.rooms.map(|rooms| rooms.nodes)
+    }
+
     /// The rooms of parts that fit.
     fn rooms(&self) -> Result<Rooms<'a>, Refused> {
         self.rooms.ok_or(Refused::UnfitParts)
