@@ -54,6 +54,15 @@ request_for (strike tag) = Strike tag
 request_for (spell ticket) = Spell ticket (replicate 200 0)
 request_for double = Double
 
+-- how many bytes of buffer an order brings
+abbrev pub buffer_for : Order → ℕ
+buffer_for (enter p) = 0
+buffer_for (change p) = 0
+buffer_for (find tag) = 0
+buffer_for (strike tag) = 0
+buffer_for (spell ticket) = 200
+buffer_for double = 0
+
 -- what is printed for what was read of a line, and the book after it; what is not read changes nothing
 abbrev pub order_text : Book ℕ → Option Order → List ℕ
 order_text book None = unread

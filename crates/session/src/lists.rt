@@ -1,9 +1,9 @@
 ghost use Rattle.std.specs.Prelude.{◌≡◌, replicate};
 ghost use Rattle.commands.specs.Commands.{order_of};
 ghost use Rattle.commands.specs.Lines.{lines};
-ghost use Rattle.dictionary.specs.Runs.{request_of};
+ghost use Rattle.dictionary.specs.Runs.{buffer_size, request_of};
 ghost use Rattle.session.specs.Outcomes.{HasOutcome, line_outcome, lines_outcome};
-ghost use Rattle.session.specs.Texts.{request_for};
+ghost use Rattle.session.specs.Texts.{request_for, buffer_for};
 
 use crate::output::Output;
 use commands::command::Command;
@@ -18,7 +18,8 @@ const LONGEST_TAG: usize = 200;
 
 // The call that a command asks for. It is no `From`, since both types are of other crates.
 fn call_of(command: Command<'_>) -> Call<'_, u32>
-    ensures { request_of result (replicate 200 0) ≡ request_for (order_of command.entry) }
+    ensures request { request_of result (replicate 200 0) ≡ request_for (order_of command.entry) }
+    ensures buffer { buffer_size result ≡ buffer_for (order_of command.entry) }
 {
     match command {
         Command::Enter { amount, tag } => Call::Enter { tag, value: amount },
