@@ -1,6 +1,7 @@
 #![tactic(auto)]
 
-ghost use Rattle.std.specs.Prelude.{length};
+ghost use Rattle.std.specs.Prelude.{◌≡◌, false, length, is_ok};
+ghost use Rattle.parts.specs.Sizes.{power_for, size_answer};
 ghost use Rattle.session.specs.Output.{Printed};
 ghost use Rattle.session.specs.Served.{printed_over};
 ghost use Rattle.door.specs.Door.{map_in, store_in, amounts as blank_amounts, door_text};
@@ -30,7 +31,8 @@ fn answers_over(
 
 // Runs the lines of a bench list on a new dictionary in lent memory, and writes what the bench program prints for them
 // into `out`, as far as it goes; bytes beyond stay. Answers how many bytes that is, whether they fit or not. In memory of
-// sizes that do not serve, every line that is read is refused with 13.
+// sizes that do not serve, every line that is read is refused with 13; where the map's does not, `map`, `labels` and
+// `starts` stay as they are.
 #[unsafe(no_mangle)]
 pub extern "C" fn walnutyore_answers(
     map: &mut [u8],
@@ -39,7 +41,8 @@ pub extern "C" fn walnutyore_answers(
     lines: &[u8],
     out: &mut [u8],
 ) -> usize
-    ensures { Printed (door_text (length map.old) (length labels.old) (length starts.old) lines.now) out.old out.new result }
+    ensures printed { Printed (door_text (length map.old) (length labels.old) (length starts.old) lines.now) out.old out.new result }
+    ensures kept { is_ok (size_answer (power_for (length map.old) 14)) ≡ false → (map.new ≡ map.old) × (labels.new ≡ labels.old) × (starts.new ≡ starts.old) }
 {
     if check_bytes(map.len()).is_ok() {
         answers_over(map, labels, starts, lines, out)
