@@ -29,8 +29,9 @@ extern "C" {
  *   lines   the list; the last line may lack its byte 10
  *   out     what is printed, as far as it goes; bytes beyond it are left as they were. It is not closed by a byte 0
  *
- * The memory may hold anything, and every call begins anew in it. In memory of other sizes every line that is read gives
- * `refused 13`.
+ * The memory may hold anything, and every call begins anew in it; what it holds after a call is left open. In memory of
+ * other sizes every line that is read gives `refused 13`, and where `map_len` is none of those above, `map`, `labels` and
+ * `starts` are left as they were.
  *
  * Answers how many bytes are printed, whether they fit into `out` or not (it stops at SIZE_MAX): where that is more than
  * `out_len`, `out` holds the first `out_len` of them. A call with `out_len` 0 tells how large `out` must be.
