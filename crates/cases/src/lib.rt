@@ -5,4 +5,6 @@
 #[cfg(test)]
 mod calls;
 #[cfg(test)]
+mod example;
+#[cfg(test)]
 mod tests;

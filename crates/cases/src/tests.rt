@@ -1,4 +1,5 @@
 use crate::calls::{last_byte, last_node, unfit, worked};
+use crate::example::day_over;
 use compact_map::shape::CompactMap;
 use label_stores::grouped::GroupedStore;
 use label_stores::plain::PlainStore;
@@ -195,4 +196,16 @@ fn parts_in_use(rt: HostRuntime) {
         RecordShelf::new(&mut places),
         5u32,
     )
+}
+
+#[test]
+fn example(rt: HostRuntime) {
+    let mut slots = [0u8; 14 * 16];
+    let mut bytes = [0u8; 1_000];
+    let mut starts = [0u32; 16];
+    let mut amounts = [None; 16];
+    let map = CompactMap::new(&mut slots);
+    let store = PlainStore::new(&mut bytes, &mut starts);
+    let shelf = RecordShelf::new(&mut amounts);
+    day_over(&rt, map, store, shelf)
 }
