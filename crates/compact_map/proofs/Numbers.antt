@@ -1,8 +1,8 @@
 -- numbers in bytes
-use Rattle.std.proofs.Common.{◌≡◌, ℕ, zero, suc, ◌+◌, ◌-◌, ◌*◌, ◌/◌, ◌%◌, ◌^◌, ◌<◌, ◌≤◌, List, length, get_or, take, drop, sym, refl, ap, ◌∙◌, subst, ap₂, w64, bit_or, length-drop, arith, pow_mono, pow-add}
+use Rattle.std.proofs.Common.{◌≡◌, ℕ, zero, suc, ◌+◌, ◌-◌, ◌*◌, ◌/◌, ◌%◌, ◌^◌, ◌<◌, ◌≤◌, List, length, get_or, take, drop, sym, refl, ap, ◌∙◌, subst, ap₂, w32, w64, bit_or, length-drop, arith, pow_mono, pow-add}
 use native.Mathlib.Nat.{div-eq_of_lt}
 use borrow.Rule.Slice.PartMut.{put_mid}
-use Rattle.std.specs.Int.{to_be_bytes}
+use Rattle.std.specs.Int.{to_be_bytes, from_be_bytes}
 use Rattle.std.specs.List.{fold}
 use Rattle.std.proofs.lemmas.Nat.{shr-shr}
 use Rattle.std.proofs.lemmas.List.{get_or-take, get_or-drop, length-take-le, drop_more}
@@ -30,6 +30,29 @@ unfolding number_at
 number_lt bs at zero small = omega arith
 number_lt bs at (suc count) small = subst (λ (n : ℕ). number_at bs at count * 256 + get_or bs (at + count) 0 < 2 ^ (8 * n)) (let e : count + 1 ≡ suc count = omega arith in e)
     (grown_lt (number_at bs at count) (get_or bs (at + count) 0) count (number_lt bs at count small) (small (at + count)))
+
+-- the first four of six bytes, as the library reads them
+pub first_four : (bs word : List ℕ) (at : ℕ) → ((k : ℕ) → get_or bs k 0 < 256) → word ≡ take (at + 4 - at) (drop at bs) → from_be_bytes w32 word ≡ number_at bs at 6 / 2 ^ 16
+first_four bs word at small is =
+    omega (
+      arith,
+      number_none bs at,
+      number_more bs at 0,
+      number_more bs at 1,
+      number_more bs at 2,
+      number_more bs at 3,
+      number_more bs at 4,
+      number_more bs at 5,
+      byte 0 (omega arith),
+      byte 1 (omega arith),
+      byte 2 (omega arith),
+      byte 3 (omega arith),
+      small (at + 4),
+      small (at + 5),
+    )
+  where
+    byte : (i : ℕ) → i < 4 → get_or word i 0 ≡ get_or bs (at + i) 0
+    byte i h = ap (λ (l : List ℕ). get_or l i 0) is ∙ get_or-take (at + 4 - at) (drop at bs) i 0 (omega arith) ∙ get_or-drop at bs i 0
 
 -- a byte more, as the code takes it in
 abbrev pub shifted : ℕ → ℕ → ℕ

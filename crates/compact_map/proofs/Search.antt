@@ -1,11 +1,9 @@
 -- a search from a home on
-use Rattle.std.proofs.Common.{◌≡◌, ℕ, ◌+◌, ◌<◌, ◌⊎◌, Some, sym, ap, ◌∙◌, subst, inl, inr, mod-lt, arith}
+use Rattle.std.proofs.Common.{◌≡◌, ℕ, ◌+◌, ◌*◌, ◌/◌, ◌^◌, ◌<◌, ◌≤◌, ◌⊎◌, Some, sym, refl, ap, ◌∙◌, subst, inl, inr, mod-lt, arith}
 use Rattle.std.proofs.lemmas.Bool.{cases_order}
-use Rattle.compact_map.specs.Slots.{quotient_in, displacement_in}
+use Rattle.compact_map.specs.Slots.{quotient_in, displacement_in, number_in}
 use Rattle.compact_map.specs.Layout.{onward}
-use Rattle.compact_map.specs.Reads.{Read}
 use Rattle.compact_map.specs.Table.{Taken, Holds, Full, Finds, homeward}
-use Rattle.compact_map.specs.declared.slot.Slot.{Slot}
 use Rattle.compact_map.proofs.Rounds.{onward_homeward, homeward_onward}
 
 -- none of the d slots that a search has passed has the home and the quotient
@@ -33,18 +31,29 @@ none_left m S home q d full passed empty i h = pick (cases_order (displacement_i
     pick (inl l) = empty (subst (λ (x : ℕ). Taken (S x)) (sym (held_at m S home q i h s) ∙ ap (onward m home) l) h.taken)
     pick (inr (inr l)) = empty (subst (λ (x : ℕ). Taken (S (onward m x d))) h.home_is (full.way i h.inside h.taken d l))
 
--- a slot that has the quotient, as far on from the home as it says, is the one
-pub found : (m : ℕ) (S : ℕ → ℕ) (home q d : ℕ) (slot : Slot) → home < m → d < m → Read (S (onward m home d)) slot → slot.quotient ≡ q → slot.displacement ≡ d
-    → Finds m S home q (Some slot.number)
-found m S home q d slot h l read eq ed = (
-  onward m home d,
+-- what a slot's head tells
+module _ (w q d : ℕ) (short : w / 2 ^ 19 < 2 ^ 29) (near : d < 2 ^ 15) where
+  head_taken : w / 2 ^ 19 ≡ 2 ^ 28 + q * 2 ^ 15 + d → Taken w
+  head_taken e = omega arith
+
+  head_quotient : w / 2 ^ 19 ≡ 2 ^ 28 + q * 2 ^ 15 + d → quotient_in w ≡ q
+  head_quotient e = omega arith
+
+  head_displacement : w / 2 ^ 19 ≡ 2 ^ 28 + q * 2 ^ 15 + d → displacement_in w ≡ d
+  head_displacement e = omega arith
+
+-- a slot with this head, as far on from the home as it says, is the one
+pub found : (m : ℕ) (S : ℕ → ℕ) (home q d i : ℕ) → home < m → d < m → m ≤ 2 ^ 15 → i ≡ onward m home d → S i / 2 ^ 19 < 2 ^ 29 → S i / 2 ^ 19 ≡ 2 ^ 28 + q * 2 ^ 15 + d
+    → Finds m S home q (Some (number_in (S i)))
+found m S home q d i h l most at short e = (
+  i,
   (
     record {
-      inside = mod-lt (home + d) (omega arith);
-      taken = read.taken;
-      home_is = ap (homeward m (onward m home d)) (sym read.displacement ∙ ed) ∙ homeward_onward m home d h l;
-      quotient_is = sym read.quotient ∙ eq;
+      inside = subst (λ (x : ℕ). x < m) (sym at) (mod-lt (home + d) (omega arith));
+      taken = head_taken (S i) q d short (omega arith) e;
+      home_is = ap (homeward m i) (head_displacement (S i) q d short (omega arith) e) ∙ ap (λ (x : ℕ). homeward m x d) at ∙ homeward_onward m home d h l;
+      quotient_is = head_quotient (S i) q d short (omega arith) e;
     },
-    read.number,
+    refl,
   ),
 )

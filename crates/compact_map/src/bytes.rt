@@ -1,8 +1,7 @@
 ghost use Rattle.std.specs.Prelude.{◌≡◌, ◌+◌, ◌*◌, ◌^◌, ◌<◌, ◌≤◌, length};
 ghost use Rattle.compact_map.specs.Bytes.{number_at, Written};
 
-// The number that N bytes hold, the most significant first. Where it copies them for `u64::from_be_bytes`, a find of the
-// dictionary takes 4 % longer.
+// The number that N bytes hold, the most significant first.
 pub(crate) fn read_number<const N: usize>(bytes: &[u8], at: usize) -> u64
     requires inside { at + N ≤ length bytes.now }
     requires short { N ≤ 6 }

@@ -1,4 +1,4 @@
-ghost use Rattle.std.specs.Prelude.{◌≡◌, ℕ, ◌+◌, ◌*◌, ◌%◌, ◌^◌, ◌<◌, ◌≤◌, length};
+ghost use Rattle.std.specs.Prelude.{◌≡◌, ℕ, ◌+◌, ◌*◌, ◌/◌, ◌%◌, ◌^◌, ◌<◌, ◌≤◌, length};
 ghost use Rattle.rules.specs.declared.step.Step.TheVariants.{By32};
 ghost use Rattle.compact_map.specs.Hash.{home_of, quotient_of};
 ghost use Rattle.compact_map.specs.Slots.{displacement_in};
@@ -9,7 +9,7 @@ ghost use Rattle.compact_map.specs.Reads.{Reads};
 
 use crate::bytes::{read_number, write_number};
 use crate::hash::{SYMBOL_BITS, hash, unhash};
-use crate::slot::Slot;
+use crate::slot::{Slot, TAKEN_HEAD, head, number_in, read_head};
 
 // The slots in use, 2^log of them, six bytes each from `start` on. They lie in one of two sets of `large` slots, which
 // take turns; behind both sets each node has two bytes for its slot.
@@ -108,8 +108,7 @@ pub(crate) struct View<'b> {
 }
 
 impl View<'_> {
-    // The six bytes of slot i, as a number. In a function of its own: where it also takes the fields out, the compiler pairs
-    // the bytes worse, and a find of the dictionary takes 1 % longer.
+    // The six bytes of slot i, as a number.
     fn word(&self, i: usize) -> u64
         requires { i < self.now.set.slots }
         ensures { result ≡ slot_at self.now.bytes.now self.now.set.start i }
@@ -125,13 +124,13 @@ impl View<'_> {
         Slot::unpack(self.word(i))
     }
 
-    // What the slot d places on from home holds.
-    fn slot_on(&self, home: usize, d: usize) -> Option<Slot>
-        requires home { home < self.now.set.slots }
-        requires near { d < self.now.set.slots }
-        ensures { Reads (slot_at self.now.bytes.now self.now.set.start (onward self.now.set.slots home d)) result }
+    // The head of slot i.
+    fn head(&self, i: usize) -> u32
+        requires { i < self.now.set.slots }
+        ensures is { result ≡ slot_at self.now.bytes.now self.now.set.start i / 2 ^ 19 }
+        ensures short { result < 2 ^ 29 }
     {
-        self.slot(self.set.around(home + d))
+        read_head(self.bytes, self.set.start + 6 * i)
     }
 
     // The number in the slot that holds this home and quotient. A loop over the distance, since it ends in two ways: at an
@@ -142,9 +141,13 @@ impl View<'_> {
         ensures { Finds self.now.set.slots (slot_at self.now.bytes.now self.now.set.start) home quotient result }
     {
         for d in 0..self.set.slots {
-            let slot = self.slot_on(home, d)?;
-            if slot.quotient == quotient && usize::from(slot.displacement) == d {
-                return Some(slot.number);
+            let at = self.set.around(home + d);
+            let found = self.head(at);
+            if found == head(quotient, d) {
+                return Some(number_in(self.word(at)));
+            }
+            if found < TAKEN_HEAD {
+                return None;
             }
         }
         None
@@ -155,7 +158,7 @@ impl View<'_> {
         requires { home < self.now.set.slots }
         ensures { FindsEmpty self.now.set.slots (slot_at self.now.bytes.now self.now.set.start) home result }
     {
-        (0..self.set.slots).find(|&d| self.slot_on(home, d).is_none())
+        (0..self.set.slots).find(|&d| self.slot(self.set.around(home + d)).is_none())
     }
 
     // The node that has the key.

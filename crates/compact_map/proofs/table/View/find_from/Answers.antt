@@ -1,19 +1,20 @@
-use Rattle.std.proofs.Common.{◌<◌, arith}
+use Rattle.std.proofs.Common.{ℕ, ◌<◌, sym, subst, arith}
 use Rattle.compact_map.specs.Slots.{displacement_in}
-use Rattle.compact_map.specs.Table.{slot_at}
+use Rattle.compact_map.specs.Table.{slot_at, Taken}
 use Rattle.compact_map.proofs.Search.{none_passed, none_left, found}
 use Rattle.compact_map.proofs.table.View.find_from.Goals as goal
 
-pub returns-in_err-slot : goal.returns-in_err-slot
-returns-in_err-slot c =
-    rw c.from_residual.ensures
-    (none_left c.args.self.now.set.slots (slot_at c.args.self.now.bytes.now c.args.self.now.set.start) c.args.home c.args.quotient c.loop-d.d c.requires.full c.loop-d.invariant
-    (λ t. omega (arith, c.in_err-slot.ensures)))
+pub returns-then-found-head : goal.returns-then-found-head
+returns-then-found-head c =
+    let e = found c.args.self.now.set.slots (slot_at c.args.self.now.bytes.now c.args.self.now.set.start) c.args.home c.args.quotient c.loop-d.d c.around-at.result c.requires.home
+    c.loop-d-test.true (omega arith) c.around-at.ensures (omega (arith, c.head-found.ensures.is, c.head-found.ensures.short))
+    (omega (arith, c.head-found.ensures.is, c.if-found-head.true, c.head.ensures)) in
+    rw (c.number_in.ensures, c.word.ensures) e
 
-pub returns-then-from-d : goal.returns-then-from-d
-returns-then-from-d c =
-    found c.args.self.now.set.slots (slot_at c.args.self.now.bytes.now c.args.self.now.set.start) c.args.home c.args.quotient c.loop-d.d c.in_ok-slot.slot c.requires.home
-    c.loop-d-test.true c.in_ok-slot.ensures c.if-slot-quotient.true (omega arith)
+pub returns-then-found-lt-TAKEN_HEAD : goal.returns-then-found-lt-TAKEN_HEAD
+returns-then-found-lt-TAKEN_HEAD c =
+    none_left c.args.self.now.set.slots (slot_at c.args.self.now.bytes.now c.args.self.now.set.start) c.args.home c.args.quotient c.loop-d.d c.requires.full c.loop-d.invariant
+    (λ t. omega (arith, c.if-found-lt-TAKEN_HEAD.true, c.head-found.ensures.is, subst (λ (x : ℕ). Taken (slot_at c.args.self.now.bytes.now c.args.self.now.set.start x)) (sym c.around-at.ensures) t))
 
 pub returns : goal.returns
 returns c i h =
