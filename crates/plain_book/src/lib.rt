@@ -13,10 +13,10 @@ use std::alloc::Global;
 use std::cmp::Reverse;
 
 /// The most bytes that a tag has.
-pub const LONGEST: usize = 200;
+const LONGEST: usize = 200;
 
 /// How far into a label one move reaches.
-pub const STEP: usize = 32;
+const STEP: usize = 32;
 
 // `Found` and `Held` are this crate's own, as `Refused` is, so that it shares nothing with what it is compared with.
 
@@ -167,6 +167,10 @@ impl<'a, V: Copy> Book<'a, V> {
     /// The current room; there is none where the parts do not fit.
     pub fn room(&self) -> Option<usize> {
         self.rooms.map(|rooms| rooms.nodes)
+    }
+
+    pub fn byte_room(&self) -> Option<usize> {
+        self.rooms.map(|rooms| rooms.bytes)
     }
 
     /// The rooms of parts that fit.

@@ -1,3 +1,4 @@
+use crate::beside::narrow;
 use crate::random::Random;
 use rules::answers::Call;
 use shelves::counts::Counts as Tallied;
@@ -38,7 +39,28 @@ impl Value for Tallied {
     }
 }
 
-fn draw_call<'a, V: Value>(random: &mut Random, words: &'a [Vec<u8>], tickets: u32) -> Call<'a, V> {
+// How long a buffer is: as long as a word, one byte shorter, or of any length.
+fn draw_buffer(random: &mut Random, word: &[u8]) -> usize {
+    match random.up_to(3) {
+        0 => random.up_to(BUFFER),
+        1 => word.len().saturating_sub(1),
+        _ => word.len(),
+    }
+}
+
+// Mostly a ticket below a number.
+fn draw_ticket(random: &mut Random, tickets: usize) -> u32 {
+    if random.once_in(8) {
+        return random.number();
+    }
+    narrow(random.up_to(tickets))
+}
+
+fn draw_call<'a, V: Value>(
+    random: &mut Random,
+    words: &'a [Vec<u8>],
+    tickets: usize,
+) -> Call<'a, V> {
     let tag = random.one_of(words).map_or(&[][..], |word| word.as_slice());
     match random.up_to(19) {
         0..=7 => Call::Enter {
@@ -52,20 +74,20 @@ fn draw_call<'a, V: Value>(random: &mut Random, words: &'a [Vec<u8>], tickets: u
             value: V::draw(random),
         },
         16..=18 => Call::Spell {
-            ticket: random.number() % tickets.max(1),
-            buffer: random.up_to(BUFFER),
+            ticket: draw_ticket(random, tickets),
+            buffer: draw_buffer(random, tag),
         },
         _ => Call::Double,
     }
 }
 
-// So many random calls with these words, and at the end a find of each word and a spell of each ticket below a number.
+// So many random calls with these words, and at the end a find of each word.
 pub(crate) fn draw_calls<'a, V: Value>(
     heap: Global,
     random: &mut Random,
     count: usize,
     words: &'a [Vec<u8>],
-    tickets: u32,
+    tickets: usize,
 ) -> Result<Vec<Call<'a, V>>, AllocError> {
     let mut calls = Vec::new(heap);
     for _ in 0..count {
@@ -73,10 +95,6 @@ pub(crate) fn draw_calls<'a, V: Value>(
     }
     for tag in words {
         calls.push(Call::Find { tag })?;
-    }
-    for ticket in 0..tickets {
-        let buffer = BUFFER;
-        calls.push(Call::Spell { ticket, buffer })?;
     }
     Ok(calls)
 }

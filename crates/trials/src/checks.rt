@@ -9,6 +9,7 @@ use shelves::counts::Counts as Tallied;
 use shelves::tally::{Tally, check_tally};
 use shelves::{bit, record};
 use std::alloc::Global;
+use std::fmt::Debug;
 use tags::refusal::Refusal;
 
 // How often each check is tried.
@@ -46,62 +47,50 @@ fn draw_sizes(random: &mut Random) -> Sizes {
 }
 
 // What a check answers, and what the rules say: this refusal, or none.
-#[derive(Clone, Copy)]
+#[derive(Clone, Copy, PartialEq, Eq, Debug)]
 struct Checked {
+    name: &'static str,
     answer: Result<(), Refusal>,
     taken: bool,
     number: u8,
 }
 
+// A check of a size of memory that is refused by this number.
+fn size(name: &'static str, number: u8, answer: Result<(), Refusal>, taken: bool) -> Checked {
+    Checked {
+        name,
+        answer,
+        taken,
+        number,
+    }
+}
+
 // Every check of a size.
 fn check_sizes(sizes: &Sizes) -> [Checked; 6] {
-    let map = |answer, make| Checked {
-        answer,
-        taken: sizes.slots(make).is_some(),
-        number: 11,
-    };
-    let store = |answer, make| Checked {
-        answer,
-        taken: sizes.store(make).is_some(),
-        number: 12,
-    };
-    let shelf = |answer, make| Checked {
-        answer,
-        taken: sizes.shelf(make).is_some(),
-        number: 12,
-    };
+    let slots = |make| sizes.slots(make).is_some();
+    let store = |make| sizes.store(make).is_some();
+    let shelf = |make| sizes.shelf(make).is_some();
+    let compact = compact_map::map::check_bytes(sizes.slot_bytes);
+    let sibling = sibling_map::map::check_records(sizes.records);
+    let plain = PlainStore::check_sizes(sizes.plain_bytes, sizes.starts);
+    let grouped = GroupedStore::check_sizes(sizes.grouped_bytes, sizes.groups);
+    let places = record::check_places(sizes.places);
+    let bits = bit::check_bytes(sizes.bit_bytes);
     [
-        map(
-            compact_map::map::check_bytes(sizes.slot_bytes),
-            MapMake::Compact,
-        ),
-        map(
-            sibling_map::map::check_records(sizes.records),
-            MapMake::Sibling,
-        ),
-        store(
-            PlainStore::check_sizes(sizes.plain_bytes, sizes.starts),
-            StoreMake::Plain,
-        ),
-        store(
-            GroupedStore::check_sizes(sizes.grouped_bytes, sizes.groups),
-            StoreMake::Grouped,
-        ),
-        shelf(record::check_places(sizes.places), ShelfMake::Record),
-        shelf(bit::check_bytes(sizes.bit_bytes), ShelfMake::Bit),
+        size("compact map", 11, compact, slots(MapMake::Compact)),
+        size("sibling map", 11, sibling, slots(MapMake::Sibling)),
+        size("plain store", 12, plain, store(StoreMake::Plain)),
+        size("grouped store", 12, grouped, store(StoreMake::Grouped)),
+        size("record shelf", 12, places, shelf(ShelfMake::Record)),
+        size("bit shelf", 12, bits, shelf(ShelfMake::Bit)),
     ]
 }
 
-// The check of a tally, and its making, which are to agree.
-fn check_counts(counts: Tallied) -> [Checked; 2] {
+// The check of a tally, and its making.
+fn check_counts(counts: Tallied) -> [Checked; 1] {
     let sum = u64::from(counts.accepted).saturating_add(u64::from(counts.rejected));
-    let checked = |answer| Checked {
-        answer,
-        taken: u64::from(counts.inserted) == sum,
-        number: 14,
-    };
-    let made = Tally::try_from(counts);
-    [checked(check_tally(counts)), checked(made.map(|_| ()))]
+    let taken = u64::from(counts.inserted) == sum;
+    [size("tally", 14, check_tally(counts), taken)]
 }
 
 fn draw_counts(random: &mut Random) -> Tallied {
@@ -116,16 +105,29 @@ fn draw_counts(random: &mut Random) -> Tallied {
     }
 }
 
-// Compares what checks answer with the rules.
-fn compare(heap: Global, checks: &[Checked], counts: &mut Counts) -> Result<(), Stop> {
-    for (place, check) in checks.iter().enumerate() {
-        let answer = check.answer.map_err(u8::from);
-        if answer != check.taken.then_some(()).ok_or(check.number) {
-            return Err(Stop::Difference(format!(in heap; "check {place} answers {answer:?}")?));
+// Compares what checks of something answer with the rules.
+fn compare<T: Debug>(
+    heap: Global,
+    of: &T,
+    checks: &[Checked],
+    counts: &mut Counts,
+) -> Result<(), Stop> {
+    for check in checks {
+        if check.answer.map_err(u8::from) != check.taken.then_some(()).ok_or(check.number) {
+            return Err(Stop::Difference(format!(in heap; "{check:?} of {of:?}")?));
         }
-        if let Err(number) = answer {
-            counts.refuse(number);
+        if let Err(why) = check.answer {
+            counts.refuse(u8::from(why));
         }
+    }
+    Ok(())
+}
+
+// The tally of these numbers has them, where they are a tally's.
+fn compare_tally(heap: Global, of: Tallied) -> Result<(), Stop> {
+    let made = Tally::try_from(of).map(Tallied::from);
+    if made != check_tally(of).map(|()| of) {
+        return Err(Stop::Difference(format!(in heap; "{made:?} is made of {of:?}")?));
     }
     Ok(())
 }
@@ -134,8 +136,11 @@ fn compare(heap: Global, checks: &[Checked], counts: &mut Counts) -> Result<(), 
 pub(crate) fn try_checks(heap: Global, counts: &mut Counts) -> Result<(), Stop> {
     let mut random = Random::new(0);
     for _ in 0..TRIES {
-        compare(heap, &check_sizes(&draw_sizes(&mut random)), counts)?;
-        compare(heap, &check_counts(draw_counts(&mut random)), counts)?;
+        let sizes = draw_sizes(&mut random);
+        compare(heap, &sizes, &check_sizes(&sizes), counts)?;
+        let tallied = draw_counts(&mut random);
+        compare(heap, &tallied, &check_counts(tallied), counts)?;
+        compare_tally(heap, tallied)?;
     }
     Ok(())
 }

@@ -3,7 +3,7 @@ use crate::calls::{Value, draw_calls};
 use crate::counts::Counts;
 use crate::makes::{List, Memory};
 use crate::random::Random;
-use crate::sizes::Sizes;
+use crate::sizes::{Sizes, State};
 use crate::stop::Stop;
 use crate::words::draw_words;
 use rules::answers::Call;
@@ -11,7 +11,7 @@ use shelves::counts::Counts as Tallied;
 use std::alloc::Global;
 
 // How many slots the largest room of a list takes. One list in forty is long.
-fn draw_slots(random: &mut Random) -> u16 {
+fn draw_slots(random: &mut Random) -> usize {
     if random.once_in(40) {
         return 512;
     }
@@ -58,15 +58,15 @@ fn run_list<V: Shelved>(
 ) -> Result<(), Stop> {
     let mut random = Random::new(number);
     let slots = draw_slots(&mut random);
-    let size = usize::from(slots);
-    let words = draw_words(heap, &mut random, size.saturating_add(16))?;
-    let count = random.from(size.saturating_mul(2), size.saturating_mul(2));
-    let tickets = u32::from(slots).saturating_add(4);
-    let calls: Vec<Call<'_, V>> = draw_calls(heap, &mut random, count, &words, tickets)?;
+    let count = random.between(slots, slots.saturating_mul(2));
+    let words = draw_words(heap, &mut random, count)?;
+    let count = random.between(count, count.saturating_mul(3));
+    let calls: Vec<Call<'_, V>> = draw_calls(heap, &mut random, count, &words, slots)?;
     let list = List {
         number,
         calls: &calls,
-        sizes: Sizes::draw(&mut random, size),
+        sizes: Sizes::draw(&mut random, slots),
+        state: State::draw(&mut random),
     };
     V::run(&list, heap, places, memory, counts)
 }

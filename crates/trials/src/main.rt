@@ -31,27 +31,35 @@ fn run_trials(heap: Global, lists: u64, counts: &mut Counts) -> Result<(), Stop>
     run_lists(heap, lists, counts)
 }
 
-fn print_counts(rt: &impl Print, c: &Counts) -> anyhow::Result<()> {
-    let [lists, dictionaries, calls] = [c.lists, c.dictionaries, c.calls];
-    println!(rt; "{lists} lists on {dictionaries} dictionaries, {calls} calls")?;
-    let [rows, step_nodes, doubled] = [c.rows, c.step_nodes, c.doubled];
-    println!(rt; "rows {rows}, step nodes {step_nodes}, doublings {doubled}")?;
-    let [entered, changed, struck] = [c.entered, c.changed, c.struck];
-    println!(rt; "entered {entered}, changed {changed}, struck {struck}")?;
+fn print_counts(rt: &impl Print, counts: &Counts) -> anyhow::Result<()> {
     let Counts {
+        lists,
+        dictionaries,
+        rows,
+        step_nodes,
+        no_node_left,
+        no_byte_left,
+        calls,
+        entered,
+        changed,
+        struck,
         found,
         absent,
-        most_moves,
-        ..
-    } = *c;
-    println!(rt; "found {found}, absent {absent}, at most {most_moves} moves")?;
-    let Counts {
         spelled,
+        doubled,
         longest,
-        ..
-    } = *c;
+        most_moves,
+        refused,
+    } = *counts;
+    let anew = entered.saturating_sub(rows);
+    println!(rt; "{lists} lists on {dictionaries} dictionaries, {calls} calls")?;
+    println!(rt; "rows {rows}, step nodes {step_nodes}, doublings {doubled}")?;
+    println!(rt; "ended with no node left {no_node_left}, no byte left {no_byte_left}")?;
+    println!(rt; "entered {entered}, of these struck before {anew}")?;
+    println!(rt; "changed {changed}, struck {struck}")?;
+    println!(rt; "found {found}, absent {absent}, at most {most_moves} moves")?;
     println!(rt; "spelled {spelled}, at most {longest} bytes")?;
-    for (number, count) in c.refused.iter().enumerate().skip(1) {
+    for (number, count) in refused.iter().enumerate().skip(1) {
         println!(rt; "refused {number}: {count}")?;
     }
     Ok(())

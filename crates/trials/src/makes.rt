@@ -3,7 +3,7 @@ use crate::beside::Trial;
 use crate::calls::Value;
 use crate::counts::Counts;
 use crate::random::Random;
-use crate::sizes::{Makes, MapMake, ShelfMake, Sizes, StoreMake, rooms};
+use crate::sizes::{Makes, MapMake, ShelfMake, Sizes, State, StoreMake, rooms};
 use crate::stop::Stop;
 use compact_map::shape::CompactMap;
 use label_stores::grouped::GroupedStore;
@@ -34,7 +34,7 @@ struct Lent {
     labels: Labels,
 }
 
-// What is lent to makes, but for the places of a record shelf. Each list finds there what the one before left.
+// What is lent to makes, but for the places of a record shelf. Each dictionary finds there what the one before left.
 #[derive(Drop)]
 pub(crate) struct Memory {
     parts: Lent,
@@ -87,20 +87,26 @@ fn with_map<V: Value, M: NodeMap + Drop, S: Shelf<Value = V> + Drop>(
     }
 }
 
-// A list: its number, its calls, and how much memory its dictionaries are lent.
+// A list: its number, its calls, how much memory its dictionaries are lent, and in what state their parts are.
 #[derive(Clone, Copy)]
 pub(crate) struct List<'a, V> {
     pub(crate) number: u64,
     pub(crate) calls: &'a [Call<'a, V>],
     pub(crate) sizes: Sizes,
+    pub(crate) state: State,
 }
 
 impl<V: Value> List<'_, V> {
-    // The book that says what a dictionary of these makes answers.
+    // The book that says what a dictionary of these makes answers. A map whose size is refused has no room for one more node.
     fn book<'b>(&self, heap: Global, makes: Makes, rooms: &'b [usize]) -> Book<'b, V> {
+        let in_use = match self.state {
+            State::New => false,
+            State::NodeMade => self.sizes.slots(makes.map).is_some(),
+            State::LabelThere => true,
+        };
         let last = rooms.last().copied().unwrap_or(0);
         match (self.sizes.store(makes.store), self.sizes.shelf(makes.shelf)) {
-            (Some((room, labels)), Some(values)) if last <= labels.min(values) => {
+            (Some((room, labels)), Some(values)) if !in_use && last <= labels.min(values) => {
                 Book::new(heap, rooms, room)
             }
             _ => Book::unfit(heap),
@@ -122,6 +128,7 @@ impl<V: Value> List<'_, V> {
             heap,
             list: self.number,
             makes,
+            state: self.state,
             book: self.book(heap, makes, &rooms),
             counts,
         };

@@ -17,9 +17,8 @@ impl Random {
         self.0.random_range(0..=most)
     }
 
-    // A number from the least to as many more.
-    pub(crate) fn from(&mut self, least: usize, more: usize) -> usize {
-        least.saturating_add(self.up_to(more))
+    pub(crate) fn between(&mut self, least: usize, most: usize) -> usize {
+        least.saturating_add(self.up_to(most.saturating_sub(least)))
     }
 
     // True once in so many times.

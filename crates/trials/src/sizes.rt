@@ -46,6 +46,37 @@ pub(crate) struct Sizes {
     pub(crate) bit_bytes: usize,
 }
 
+// Places for so many slots: about as many as the last room of a sibling map or of a compact map, or more than enough.
+fn draw_places(random: &mut Random, slots: usize) -> usize {
+    let last = match random.up_to(5) {
+        0 => slots,
+        1 => slots.saturating_mul(9) / 10,
+        _ => return random.between(slots, slots.saturating_add(9)),
+    };
+    random.between(last.saturating_sub(1), last.saturating_add(1))
+}
+
+// In what state the parts are when a dictionary is opened over them.
+#[derive(Clone, Copy, PartialEq, Eq, Debug)]
+pub(crate) enum State {
+    New,
+    // The map has a node besides node 0, where its room is larger than 1.
+    NodeMade,
+    // The store has a label, where it has a place.
+    LabelThere,
+}
+
+impl State {
+    // One time in eight the parts are in use.
+    pub(crate) fn draw(random: &mut Random) -> State {
+        match random.up_to(15) {
+            0 => State::NodeMade,
+            1 => State::LabelThere,
+            _ => State::New,
+        }
+    }
+}
+
 impl Sizes {
     // The largest that are drawn.
     pub(crate) const LARGEST: Sizes = Sizes {
@@ -59,27 +90,27 @@ impl Sizes {
         bit_bytes: 131,
     };
 
-    // Sizes that fit one another, for so many slots.
-    fn fitting(random: &mut Random, slots: usize) -> Sizes {
+    // Sizes for so many slots that mostly fit one another.
+    fn near(random: &mut Random, slots: usize) -> Sizes {
         let bytes = match random.up_to(2) {
-            0 => random.from(1, 199),
-            1 => random.from(200, 800),
+            0 => random.between(1, slots.saturating_mul(4)),
+            1 => random.between(slots.saturating_mul(4), slots.saturating_mul(20)),
             _ => 40_000,
         };
-        let groups = random.from(slots / 16, 1);
+        let groups = random.between(slots / 16, slots / 16 + 1);
         Sizes {
             slot_bytes: slots.saturating_mul(14),
             records: slots,
             plain_bytes: bytes,
-            starts: random.from(slots, 9),
+            starts: draw_places(random, slots),
             grouped_bytes: bytes.saturating_add(groups.saturating_mul(16)),
             groups,
-            places: random.from(slots, 9),
-            bit_bytes: random.from(slots / 4, 3),
+            places: draw_places(random, slots),
+            bit_bytes: random.between(slots / 4, slots / 4 + 3),
         }
     }
 
-    // One size is none that is taken, or too small for the others.
+    // One size is drawn anew, mostly to be one that is not taken or too small for the others.
     fn spoil(&mut self, random: &mut Random) {
         match random.up_to(6) {
             0 => self.slot_bytes = random.up_to(self.slot_bytes),
@@ -94,7 +125,7 @@ impl Sizes {
 
     // Sizes for so many slots, one time in eight spoilt.
     pub(crate) fn draw(random: &mut Random, slots: usize) -> Sizes {
-        let mut sizes = Sizes::fitting(random, slots);
+        let mut sizes = Sizes::near(random, slots);
         if random.once_in(8) {
             sizes.spoil(random);
         }
@@ -113,30 +144,30 @@ impl Sizes {
 
     // A store's byte room and places, where its sizes are not refused.
     pub(crate) fn store(&self, make: StoreMake) -> Option<(usize, usize)> {
-        let (bytes, starts) = match make {
-            StoreMake::Plain => (self.plain_bytes, self.starts),
-            StoreMake::Grouped => (self.grouped_bytes, self.groups),
-        };
         match make {
-            StoreMake::Plain if matches!((bytes, starts), (1..=1_048_576, 1..=32_768)) => {
-                Some((bytes, starts))
+            StoreMake::Plain => {
+                let taken = matches!(self.plain_bytes, 1..=1_048_576);
+                (taken && matches!(self.starts, 1..=32_768)).then_some((
+                    self.plain_bytes,
+                    self.starts,
+                ))
             }
-            StoreMake::Grouped if bytes <= 1_081_344 && matches!(starts, 1..=2_048) => {
-                let places = starts.saturating_mul(16);
-                let room = bytes.checked_sub(places)?;
-                (room > 0).then_some((room, places))
+            StoreMake::Grouped => {
+                let places = self.groups.saturating_mul(16);
+                let room = self.grouped_bytes.saturating_sub(places);
+                let taken = room > 0 && self.grouped_bytes <= 1_081_344;
+                (taken && matches!(self.groups, 1..=2_048)).then_some((room, places))
             }
-            _ => None,
         }
     }
 
     // A shelf's places, where its size is not refused.
     pub(crate) fn shelf(&self, make: ShelfMake) -> Option<usize> {
         match make {
-            ShelfMake::Record => Some(self.places).filter(|n| matches!(n, 1..=32_768)),
-            ShelfMake::Bit => Some(self.bit_bytes)
-                .filter(|n| matches!(n, 1..=8_192))
-                .map(|n| n.saturating_mul(4)),
+            ShelfMake::Record => matches!(self.places, 1..=32_768).then_some(self.places),
+            ShelfMake::Bit => {
+                matches!(self.bit_bytes, 1..=8_192).then_some(self.bit_bytes.saturating_mul(4))
+            }
         }
     }
 }

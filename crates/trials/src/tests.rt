@@ -23,6 +23,7 @@ fn one_call(heap: Global, book: Book<'_, u32>, call: Call<'_, u32>) -> Result<()
         heap,
         list: 3,
         makes: MAKES,
+        state: State::New,
         book,
         counts: &mut counts,
     };
@@ -65,7 +66,11 @@ fn another_answer_is_told(rt: HostRuntime) {
 fn parts_that_fit_are_told(rt: HostRuntime) {
     let heap = rt.alloc();
     let ended = one_call(heap, Book::unfit(heap), Call::Double);
-    told(&rt, ended, "list 3");
+    told(
+        &rt,
+        ended,
+        "list 3, Makes { map: Compact, store: Plain, shelf: Record }: check_parts and the sizes",
+    );
 }
 
 #[test]

@@ -27,12 +27,14 @@ impl Style {
 
     fn length(self, random: &mut Random) -> usize {
         match (self, random.up_to(3)) {
-            (Style::Letters, _) => random.from(1, 5),
-            (Style::Stretches, 0) => random.from(1, 7),
-            (Style::Stretches, 1) => random.from(30, 4),
-            (Style::Stretches, 2) => random.from(62, 4),
-            (Style::Bytes, 0 | 1) => random.from(1, 20),
-            _ => random.from(1, 199),
+            (Style::Letters, _) => random.between(1, 6),
+            (Style::Stretches, 0) => random.between(1, 8),
+            (Style::Stretches, 1 | 2) => {
+                let near = random.between(1, 6).saturating_mul(32);
+                random.between(near.saturating_sub(2), near.saturating_add(2))
+            }
+            (Style::Bytes, 0 | 1) => random.between(1, 20),
+            _ => random.between(1, LONGEST),
         }
     }
 
@@ -53,7 +55,7 @@ const BAD: [u8; 2] = [0, 255];
 fn spoil(random: &mut Random, word: &mut Vec<u8>) -> Result<(), AllocError> {
     match random.up_to(4) {
         0 => word.clear(),
-        1 | 2 => word.resize(random.from(201, 9), b'a')?,
+        1 | 2 => word.resize(random.between(201, 210), b'a')?,
         _ => {}
     }
     if random.bit() {
@@ -85,7 +87,7 @@ fn draw_word(
     Ok(word)
 }
 
-// As many words, of which one in twelve is spoilt.
+// As many words. One in twelve is drawn to be spoilt, and a fifth of these stay as they are.
 pub(crate) fn draw_words(
     heap: Global,
     random: &mut Random,
