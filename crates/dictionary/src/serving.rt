@@ -69,8 +69,9 @@ impl<M: NodeMap, L: LabelStore, S: Shelf> DictionaryCalls for Dictionary<M, L, S
     fn enter(&mut self, tag: &[u8], value: S::Value) -> Result<u32, Refusal> {
         self.opened?;
         let tag = Tag::try_from(tag)?;
-        let form = tag.spelled();
-        let s = form.bytes();
+        let mut form = [0; 201];
+        let len = tag.spell_into(&mut form);
+        let s = &form[..len];
         if self.parts.store.count() == 0 {
             self.check_room(0, s)?;
             let _ = self.parts.store.append(s, 0);
@@ -106,14 +107,15 @@ impl<M: NodeMap, L: LabelStore, S: Shelf> DictionaryCalls for Dictionary<M, L, S
     fn find(&self, tag: &[u8]) -> Result<Found<S::Value>, Refusal> {
         self.opened?;
         let tag = Tag::try_from(tag)?;
-        let form = tag.spelled();
+        let mut form = [0; 201];
+        let len = tag.spell_into(&mut form);
         if self.parts.store.count() == 0 {
             return Ok(Found {
                 held: None,
                 moves: 0,
             });
         }
-        let place = look(&self.parts.map, &self.parts.store, form.bytes());
+        let place = look(&self.parts.map, &self.parts.store, &form[..len]);
         let held = match place.end {
             Ok(ticket) => held_at(&self.parts.shelf, ticket),
             Err(_) => None,

@@ -1,10 +1,15 @@
--- the closing byte, and the zeros behind it
-use Rattle.std.proofs.Common.{◌≡◌, ℕ, suc, ◌-◌, ◌≤◌, List, [], ◌∷◌, ◌++◌, length, drop, replicate, sym, arith}
-use Rattle.std.proofs.lemmas.List.{append_assoc, drop-replicate}
+-- the closing byte, and what lies behind it
+use Rattle.std.proofs.Common.{◌≡◌, ℕ, ◌+◌, ◌-◌, ◌<◌, ◌≤◌, List, [], ◌∷◌, ◌++◌, length, get_or, drop, set, replicate, sym, refl, ap, ◌∙◌, arith}
+use Rattle.std.proofs.lemmas.List.{append_assoc, drop_more, drop-replicate, set_at}
 use Rattle.tags.specs.Tags.{padded, spelled}
 
-pub closed : (tag front : List ℕ) → front ≡ tag → length tag ≤ 200 → front ++ drop (length tag) (replicate 201 0) ≡ padded tag
+pub closed : (tag front old : List ℕ) → front ≡ tag → length tag < length old → set (front ++ drop (length tag) old) (length tag) 0 ≡ spelled tag ++ drop (length tag + 1) old
 unfolding spelled
-closed tag front e h =
-    let n : 201 - length tag ≡ suc (200 - length tag) = omega arith in
-    rw (e, drop-replicate {X = ℕ} (length tag) 201 0, n) (sym (append_assoc tag (0 ∷ []) (replicate (200 - length tag) 0)))
+closed tag front old e h =
+    rw (e, drop_more old (length tag) 0 h)
+    (set_at tag (get_or old (length tag) 0) (drop (length tag + 1) old) 0 (length tag) refl ∙ sym (append_assoc tag (0 ∷ []) (drop (length tag + 1) old)))
+
+pub zeros_behind : (tag : List ℕ) → length tag ≤ 200 → spelled tag ++ drop (length tag + 1) (replicate 201 0) ≡ padded tag
+zeros_behind tag h =
+    ap (λ (rest : List ℕ). spelled tag ++ rest)
+    (drop-replicate {X = ℕ} (length tag + 1) 201 0 ∙ ap (λ (n : ℕ). replicate n 0) (let n : 201 - (length tag + 1) ≡ 200 - length tag = omega arith in n))

@@ -1,5 +1,5 @@
-ghost use Rattle.std.specs.Prelude.{◌≡◌, ◌+◌, ◌≤◌, length, take, Some, None, MatchResult};
-ghost use Rattle.tags.specs.Tags.{WellFormed, is_bad, any_bad, tag_refusal, checked, padded, tag_of, SpelledFrom};
+ghost use Rattle.std.specs.Prelude.{◌≡◌, ◌+◌, ◌≤◌, ◌++◌, length, take, drop, Some, None, MatchResult};
+ghost use Rattle.tags.specs.Tags.{WellFormed, is_bad, any_bad, tag_refusal, checked, spelled, padded, tag_of, SpelledFrom};
 
 use crate::refusal::Refusal;
 
@@ -53,16 +53,6 @@ pub fn check(bytes: &[u8]) -> Result<(), Refusal>
     Ok(())
 }
 
-// A tag in front of zeros.
-fn close(tag: &[u8]) -> [u8; 201]
-    requires { WellFormed tag.now }
-    ensures { result ≡ padded tag.now }
-{
-    let mut bytes = [0; 201];
-    bytes[..tag.len()].copy_from_slice(tag);
-    bytes
-}
-
 // The tag that bytes are, or why they are none.
 impl<'a> TryFrom<&'a [u8]> for Tag<'a> {
     type Error = Refusal;
@@ -90,14 +80,25 @@ impl<'a> Tag<'a> {
         self.bytes
     }
 
+    // Writes the spelled form to the beginning of the bytes, and answers its length. The dictionary takes this: by `spelled`,
+    // whose array is copied at each return, a find takes 10 % more instructions.
+    pub fn spell_into(&self, bytes: &mut [u8; 201]) -> usize
+        ensures bytes { bytes.new ≡ spelled self.now.bytes.now ++ drop (length self.now.bytes.now + 1) bytes.old }
+        ensures len { result ≡ length self.now.bytes.now + 1 }
+    {
+        let len = self.bytes.len();
+        bytes[..len].copy_from_slice(self.bytes);
+        bytes[len] = 0;
+        len + 1
+    }
+
     pub fn spelled(&self) -> Spelled
         ensures bytes { result.bytes ≡ padded self.now.bytes.now }
         ensures len { result.len ≡ length self.now.bytes.now + 1 }
     {
-        Spelled {
-            bytes: close(self.bytes),
-            len: self.bytes.len() + 1,
-        }
+        let mut bytes = [0; 201];
+        let len = self.spell_into(&mut bytes);
+        Spelled { bytes, len }
     }
 }
 

@@ -19,22 +19,22 @@ returns-in_err-tag-clause-next g c = λ b sh.
 
 pub returns-in_err-check_room-clause-answer : goal.returns-in_err-check_room-clause-answer
 returns-in_err-check_room-clause-answer g c = λ b sh.
-    let form = read c.args.tag.now _ _ _ _ c.in_ok-tag.ensures c.spelled-form.ensures.bytes c.spelled-form.ensures.len c.bytes-s.ensures in
+    let form = read c.args.tag.now _ _ _ _ c.in_ok-tag.ensures c.spell_into-len.ensures.bytes c.spell_into-len.ensures.len in
     let p = err_from_is_err_and c.from_residual-in_err-check_room.result c.from_residual-in_err-check_room.ensures.1 in rw (p.1, p.2) (did_first_refused _ _ _ b sh.1 c.check_room.ensures.facts c.args.tag.now form.0 c.args.value (omega arith) _ form.1 _ c.in_err-check_room.ensures.answer).says
 
 pub returns-in_err-check_room-clause-next : goal.returns-in_err-check_room-clause-next
 returns-in_err-check_room-clause-next g c = λ b sh.
-    let form = read c.args.tag.now _ _ _ _ c.in_ok-tag.ensures c.spelled-form.ensures.bytes c.spelled-form.ensures.len c.bytes-s.ensures in
+    let form = read c.args.tag.now _ _ _ _ c.in_ok-tag.ensures c.spell_into-len.ensures.bytes c.spell_into-len.ensures.len in
     (sh.0, (did_first_refused _ _ _ b sh.1 c.check_room.ensures.facts c.args.tag.now form.0 c.args.value (omega arith) _ form.1 _ c.in_err-check_room.ensures.answer).shows)
 
 pub returns-then-count-eq0-clause-answer : goal.returns-then-count-eq0-clause-answer
 returns-then-count-eq0-clause-answer g c = λ b sh.
-    let form = read c.args.tag.now _ _ _ _ c.in_ok-tag.ensures c.spelled-form.ensures.bytes c.spelled-form.ensures.len c.bytes-s.ensures in
+    let form = read c.args.tag.now _ _ _ _ c.in_ok-tag.ensures c.spell_into-len.ensures.bytes c.spell_into-len.ensures.len in
     (did_first _ _ _ b sh.1 c.check_room.ensures.facts c.args.tag.now form.0 c.args.value (omega arith) _ form.1 c.in_ok-check_room.ensures.answer _ c.append.ensures.next _ c.put.ensures.next).says
 
 pub returns-then-count-eq0-clause-next : goal.returns-then-count-eq0-clause-next
 returns-then-count-eq0-clause-next g c = λ b sh.
-    let form = read c.args.tag.now _ _ _ _ c.in_ok-tag.ensures c.spelled-form.ensures.bytes c.spelled-form.ensures.len c.bytes-s.ensures in
+    let form = read c.args.tag.now _ _ _ _ c.in_ok-tag.ensures c.spell_into-len.ensures.bytes c.spell_into-len.ensures.len in
     (sh.0, (did_first _ _ _ b sh.1 c.check_room.ensures.facts c.args.tag.now form.0 c.args.value (omega arith) _ form.1 c.in_ok-check_room.ensures.answer _ c.append.ensures.next _ c.put.ensures.next).shows)
 
 pub returns-then-count-eq0-clause-stays : goal.returns-then-count-eq0-clause-stays
@@ -42,27 +42,27 @@ returns-then-count-eq0-clause-stays g c = set_extent _ _ _ _ _ _ (append_places 
 
 pub returns-in-Some-clause-answer : goal.returns-in-Some-clause-answer
 returns-in-Some-clause-answer g c = λ b sh.
-    let form = read c.args.tag.now _ _ _ _ c.in_ok-tag.ensures c.spelled-form.ensures.bytes c.spelled-form.ensures.len c.bytes-s.ensures in
+    let form = read c.args.tag.now _ _ _ _ c.in_ok-tag.ensures c.spell_into-len.ensures.bytes c.spell_into-len.ensures.len in
     (did_hold _ _ _ b sh.1 c.look.ensures.facts c.args.tag.now form.0 c.args.value _ form.1 (omega arith) _ c.look.ensures.looked _ c.in-Ok.is _ c.in-Some.ensures).says
 
 pub returns-in-Some-clause-next : goal.returns-in-Some-clause-next
 returns-in-Some-clause-next g c = λ b sh.
-    let form = read c.args.tag.now _ _ _ _ c.in_ok-tag.ensures c.spelled-form.ensures.bytes c.spelled-form.ensures.len c.bytes-s.ensures in
+    let form = read c.args.tag.now _ _ _ _ c.in_ok-tag.ensures c.spell_into-len.ensures.bytes c.spell_into-len.ensures.len in
     (sh.0, (did_hold _ _ _ b sh.1 c.look.ensures.facts c.args.tag.now form.0 c.args.value _ form.1 (omega arith) _ c.look.ensures.looked _ c.in-Ok.is _ c.in-Some.ensures).shows)
 
 pub returns-in_err-check_room-in-Err-clause-answer : goal.returns-in_err-check_room-in-Err-clause-answer
 returns-in_err-check_room-in-Err-clause-answer g c = λ b sh.
-    let form = read c.args.tag.now _ _ _ _ c.in_ok-tag.ensures c.spelled-form.ensures.bytes c.spelled-form.ensures.len c.bytes-s.ensures in
+    let form = read c.args.tag.now _ _ _ _ c.in_ok-tag.ensures c.spell_into-len.ensures.bytes c.spell_into-len.ensures.len in
     let p = err_from_is_err_and c.from_residual-in_err-check_room-in-Err.result c.from_residual-in_err-check_room-in-Err.ensures.1 in rw (p.1, p.2) (did_new_refused _ _ _ b sh.1 c.look.ensures.facts c.args.tag.now form.0 c.args.value _ form.1 (omega arith) _ c.look.ensures.looked _ c.in-Err.is _ c.in_err-check_room-in-Err.ensures.answer).says
 
 pub returns-in_err-check_room-in-Err-clause-next : goal.returns-in_err-check_room-in-Err-clause-next
 returns-in_err-check_room-in-Err-clause-next g c = λ b sh.
-    let form = read c.args.tag.now _ _ _ _ c.in_ok-tag.ensures c.spelled-form.ensures.bytes c.spelled-form.ensures.len c.bytes-s.ensures in
+    let form = read c.args.tag.now _ _ _ _ c.in_ok-tag.ensures c.spell_into-len.ensures.bytes c.spell_into-len.ensures.len in
     (sh.0, (did_new_refused _ _ _ b sh.1 c.look.ensures.facts c.args.tag.now form.0 c.args.value _ form.1 (omega arith) _ c.look.ensures.looked _ c.in-Err.is _ c.in_err-check_room-in-Err.ensures.answer).shows)
 
 pub returns-clause-answer : goal.returns-clause-answer
 returns-clause-answer g c = λ b sh.
-    let form = read c.args.tag.now _ _ _ _ c.in_ok-tag.ensures c.spelled-form.ensures.bytes c.spelled-form.ensures.len c.bytes-s.ensures in
+    let form = read c.args.tag.now _ _ _ _ c.in_ok-tag.ensures c.spell_into-len.ensures.bytes c.spell_into-len.ensures.len in
     elim c.match-look.branch [
       | in-Ok+in-None w ↦
           let put = rw w.self-is at c.put-2.ensures.next ∙ ap (λ (n : ℕ). set (g.S.Shelf.meaning c.args.self.now.parts.shelf) n (Some c.args.value)) w.node-is in
@@ -76,7 +76,7 @@ returns-clause-answer g c = λ b sh.
 
 pub returns-clause-next : goal.returns-clause-next
 returns-clause-next g c = λ b sh.
-    let form = read c.args.tag.now _ _ _ _ c.in_ok-tag.ensures c.spelled-form.ensures.bytes c.spelled-form.ensures.len c.bytes-s.ensures in
+    let form = read c.args.tag.now _ _ _ _ c.in_ok-tag.ensures c.spell_into-len.ensures.bytes c.spell_into-len.ensures.len in
     elim c.match-look.branch [
       | in-Ok+in-None w ↦
           let put = rw w.self-is at c.put-2.ensures.next ∙ ap (λ (n : ℕ). set (g.S.Shelf.meaning c.args.self.now.parts.shelf) n (Some c.args.value)) w.node-is in

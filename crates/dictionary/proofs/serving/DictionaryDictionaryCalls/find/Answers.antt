@@ -15,7 +15,7 @@ returns-then-count-eq0-clause-answer g c = λ b sh. find_empty _ _ _ b sh.1 _ c.
 
 pub returns-clause-answer : goal.returns-clause-answer
 returns-clause-answer g c = λ b sh.
-    let form = read c.args.tag.now _ _ _ _ c.in_ok-tag.ensures c.spelled-form.ensures.bytes c.spelled-form.ensures.len c.bytes.ensures in
+    let form = read c.args.tag.now _ _ _ _ c.in_ok-tag.ensures c.spell_into-len.ensures.bytes c.spell_into-len.ensures.len in
     elim c.match-place.branch [
       | in-Ok w ↦ found_there _ _ _ b sh.1 _ form.0 _ form.1 (omega arith) _ c.look-place.ensures.looked c.look-place.ensures.facts _ w.in-Ok.is _ (w.held-is ∙ w.held_at-held.ensures)
       | in-Err w ↦ rw w.held-is (found_none _ _ _ b sh.1 _ form.0 _ form.1 (omega arith) _ c.look-place.ensures.looked _ w.in-Err.is)
