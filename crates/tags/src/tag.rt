@@ -80,8 +80,8 @@ impl<'a> Tag<'a> {
         self.bytes
     }
 
-    // Writes the spelled form to the beginning of the bytes, and answers its length. The dictionary takes this: by `spelled`,
-    // whose array is copied at each return, a find takes 10 % more instructions.
+    // Writes the spelled form to the beginning of the bytes, and answers its length. The dictionary takes this: by
+    // `spelled`, whose array is copied at each return, a find takes 10 % more instructions.
     pub fn spell_into(&self, bytes: &mut [u8; 201]) -> usize
         ensures bytes { bytes.new ≡ spelled self.now.bytes.now ++ drop (length self.now.bytes.now + 1) bytes.old }
         ensures len { result ≡ length self.now.bytes.now + 1 }
