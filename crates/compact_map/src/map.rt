@@ -109,9 +109,9 @@ impl<'a> CompactMap<'a> {
         if self.later == 0 {
             return None;
         }
-        // By `.map(u32::from)` in place of `?`, a find of the dictionary takes 3 % more instructions.
-        let v = self.view().find(u * SYMBOL_COUNT + u32::from(c))?;
-        Some(u32::from(v))
+        self.view()
+            .find(u * SYMBOL_COUNT + u32::from(c))
+            .map(u32::from)
     }
 
     // Makes the child of node u by the symbol c, where there is none and the room is not full.

@@ -1,4 +1,4 @@
-use Rattle.std.proofs.Common.{◌<◌, ◌≤◌, Some, None, sym, arith}
+use Rattle.std.proofs.Common.{◌≡◌, ℕ, ◌<◌, ◌≤◌, Some, None, Option, IsSomeAnd, MatchOption, rules, sym, ◌∙◌, arith}
 use Rattle.compact_map.specs.declared.shape.CompactMap.{CompactMap}
 use Rattle.compact_map.specs.Meaning.{keys_of}
 use Rattle.compact_map.proofs.Edges.{child_absent}
@@ -22,18 +22,15 @@ find-requires c =
     let used : 2 < s.set.large = omega arith in
     rw (c.view.ensures.bytes, c.view.ensures.set) (table_of s used).full
 
-pub returns-in_err-v : goal.returns-in_err-v
-returns-in_err-v c =
-    let s : CompactMap = c.args.self.now in
-    let used : 2 < s.set.large = omega arith in
-    let low : c.args.u ≤ s.later = omega (arith, count_is s) in
-    let f = rw (c.view.ensures.bytes, c.view.ensures.set, c.from.ensures) at c.in_err-v.ensures in
-    rw c.from_residual.ensures (child_is s used c.args.u c.args.c low c.requires.1 None f)
+mapped : (r q : Option ℕ) → MatchOption r (q ≡ None) (λ x. IsSomeAnd q (λ y. y ≡ x)) → q ≡ r
+mapped None q e = e
+mapped (Some x) None e = search rules
+mapped (Some x) (Some y) e = search rules
 
 pub returns : goal.returns
 returns c =
     let s : CompactMap = c.args.self.now in
     let used : 2 < s.set.large = omega arith in
     let low : c.args.u ≤ s.later = omega (arith, count_is s) in
-    let f = rw (c.view.ensures.bytes, c.view.ensures.set, c.from.ensures) at c.in_ok-v.ensures in
-    rw c.from-2.ensures (child_is s used c.args.u c.args.c low c.requires.1 (Some c.in_ok-v.v) f)
+    let f = rw (c.view.ensures.bytes, c.view.ensures.set, c.from.ensures) at c.find.ensures in
+    mapped c.find.result c.map.result c.map.ensures.cases ∙ child_is s used c.args.u c.args.c low c.requires.1 c.find.result f
