@@ -30,8 +30,8 @@ extern "C" {
  *   out     what is printed, as far as it goes; bytes beyond it are left as they were. It is not closed by a byte 0
  *
  * The memory may hold anything, and every call begins anew in it; what it holds after a call is left open. In memory of
- * other sizes every line that is read gives `refused 13`, and where `map_len` is none of those above, `map`, `labels` and
- * `starts` are left as they were.
+ * other sizes every line that is read gives `refused 13`. Where `map_len` is not 14 * M for an M of 16, 32, 64, .. 32768,
+ * `map`, `labels` and `starts` are left as they were.
  *
  * Answers how many bytes are printed, whether they fit into `out` or not (it stops at SIZE_MAX): where that is more than
  * `out_len`, `out` holds the first `out_len` of them. A call with `out_len` 0 tells how large `out` must be.

@@ -31,8 +31,8 @@ fn answers_over(
 
 // Runs the lines of a bench list on a new dictionary in lent memory, and writes what the bench program prints for them
 // into `out`, as far as it goes; bytes beyond stay. Answers how many bytes that is, whether they fit or not. In memory of
-// sizes that do not serve, every line that is read is refused with 13; where the map's does not, `map`, `labels` and
-// `starts` stay as they are. Otherwise what they hold afterwards is left open: the next call begins anew in them.
+// sizes that do not serve, every line that is read is refused with 13. Where the map's size is refused, `map`, `labels` and
+// `starts` stay as they are; otherwise what they hold afterwards is left open: the next call begins anew in them.
 #[unsafe(no_mangle)]
 pub extern "C" fn walnutyore_answers(
     map: &mut [u8],
