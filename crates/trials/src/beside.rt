@@ -181,7 +181,7 @@ impl<V: Value> Trial<'_, V> {
         Ok(())
     }
 
-    // Spells a ticket into a long buffer and, where it has a tag, into one of just its length and one that is a byte shorter.
+    // Spells a ticket into a long buffer and, where it has a tag, into one of just its length and one a byte shorter.
     fn compare_spells<M: NodeMap, L: LabelStore, S: Shelf<Value = V>>(
         &mut self,
         d: &mut Dictionary<M, L, S>,

@@ -97,7 +97,7 @@ pub(crate) struct List<'a, V> {
 }
 
 impl<V: Value> List<'_, V> {
-    // The book that says what a dictionary of these makes answers. A map whose size is refused has no room for one more node.
+    // The book that says what a dictionary of these makes answers. A map of a refused size has no room for one more node.
     fn book<'b>(&self, heap: Global, makes: Makes, rooms: &'b [usize]) -> Book<'b, V> {
         let in_use = match self.state {
             State::New => false,
