@@ -1,6 +1,6 @@
 use crate::beside::Trial;
 use crate::counts::Counts;
-use crate::sizes::{Makes, MapMake, ShelfMake, StoreMake};
+use crate::sizes::{Makes, MapMake, ShelfMake, State, StoreMake};
 use crate::stop::Stop;
 use compact_map::shape::CompactMap;
 use label_stores::plain::PlainStore;
