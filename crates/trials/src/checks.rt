@@ -86,7 +86,7 @@ fn check_sizes(sizes: &Sizes) -> [Checked; 6] {
     ]
 }
 
-// The check of a tally, and its making.
+// The check of a tally.
 fn check_counts(counts: Tallied) -> [Checked; 1] {
     let sum = u64::from(counts.accepted).saturating_add(u64::from(counts.rejected));
     let taken = u64::from(counts.inserted) == sum;
