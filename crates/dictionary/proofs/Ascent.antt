@@ -56,10 +56,10 @@ byte_small m v p c b f u e = omega (arith, u.symbol, f.symbols v u.low u.high)
 
 -- whether a number is a row's node
 module _ (m : Map) (l : Store) (v : ℕ) where
-  of_none : length l.labels ≤ v → false ≡ of_row m l v
+  pub of_none : length l.labels ≤ v → false ≡ of_row m l v
   of_none h = rw (le-ltb v (length l.labels) h) refl
 
-  of_top : v < length l.labels → v ≡ 0 → true ≡ of_row m l v
+  pub of_top : v < length l.labels → v ≡ 0 → true ≡ of_row m l v
   of_top h z = rw (lt-ltb v (length l.labels) h, eq-eqb v 0 z) refl
 
   pub of_plain : v < length l.labels → (0 < v → (edge_of m.edges v).symbol ≡ step_symbol By32 → ⊥) → of_row m l v ≡ true

@@ -31,7 +31,7 @@ no_value : {V : Type 0} (n : ℕ) → value_with {V = V} [] n ≡ None
 unfolding value_with
 no_value n = refl
 
-fit_of : {V : Type 0} (m : Map) (l : Store) (s : List (Option V)) → Ok tt ≡ open_answer m l s → fits m l s ≡ true
+pub fit_of : {V : Type 0} (m : Map) (l : Store) (s : List (Option V)) → Ok tt ≡ open_answer m l s → fits m l s ≡ true
 fit_of m l s e = go (fits m l s) e
   where
     go : (b : Bool) → ◌≡◌ {A = Result (Unit {0}) Refusal} (Ok tt) (cond b (Ok tt) (Err UnfitParts)) → b ≡ true

@@ -210,7 +210,7 @@ module _ {V : Type 0} (m : Map) (l : Store) (s : List (Option V)) (b : Book V) (
         })
   ]
 
-  did_last : (fault : MapFault) → Err fault ≡ double_answer m → Did m' l s (double b) (Err (NoNextRoom fault))
+  pub did_last : (fault : MapFault) → Err fault ≡ double_answer m → Did m' l s (double b) (Err (NoNextRoom fault))
   unfolding double
   did_last fault a = elim (cases_list m.coming) [
     | inr q ↦ absurd (let f : double_answer m ≡ Ok q.0 = rw q.2 refl in err_not (a ∙ f))

@@ -1,4 +1,4 @@
-ghost use Rattle.std.specs.Prelude.{◌≡◌, ◌≤◌, None, Ok, Err, slice_index_or};
+ghost use Rattle.std.specs.Prelude.{◌≡◌, ◌≤◌, false, is_ok, None, Ok, Err, slice_index_or};
 ghost use Rattle.tags.specs.declared.refusal.Refusal.TheVariants.{UnfitParts};
 ghost use Rattle.rules.specs.declared.step.Step.TheVariants.{By32};
 ghost use Rattle.rules.specs.Calls.{Book, strike as strike_in};
@@ -33,7 +33,7 @@ impl<M: NodeMap, L: LabelStore, S: Shelf> Dictionary<M, L, S> {
     fn live(&self, tag: &[u8]) -> Result<u32, Refusal>
         ensures answer { self.now.opened ≡ Ok tt → (b : Book S.Value) → Shows (M.NodeMap.meaning self.now.parts.map) (L.LabelStore.meaning self.now.parts.store) (S.Shelf.meaning self.now.parts.shelf) b → result ≡ (strike_in b tag.now).answer }
         ensures facts { MapFacts By32 (M.NodeMap.meaning self.now.parts.map) }
-        ensures unfit { self.now.opened ≡ Err UnfitParts → result ≡ Err UnfitParts }
+        ensures unfit { is_ok self.now.opened ≡ false → result ≡ Err UnfitParts }
     {
         let _ = self.parts.map.count();
         let found = self.find(tag)?;
@@ -62,12 +62,12 @@ impl<M: NodeMap, L: LabelStore, S: Shelf> DictionaryCalls for Dictionary<M, L, S
 
     ghost shows = { λ d b. (d.opened ≡ Ok tt) × Shows (M.NodeMap.meaning d.parts.map) (L.LabelStore.meaning d.parts.store) (S.Shelf.meaning d.parts.shelf) b };
 
-    ghost unfit = { λ d. d.opened ≡ Err UnfitParts };
+    ghost unfit = { λ d. is_ok d.opened ≡ false };
 
     ghost extent = { λ d. extent_of (L.LabelStore.meaning d.parts.store) (S.Shelf.meaning d.parts.shelf) };
 
     fn enter(&mut self, tag: &[u8], value: S::Value) -> Result<u32, Refusal> {
-        self.opened?;
+        self.opened.or(Err(Refusal::UnfitParts))?;
         let tag = Tag::try_from(tag)?;
         let mut form = [0; 201];
         let len = tag.spell_into(&mut form);
@@ -105,7 +105,7 @@ impl<M: NodeMap, L: LabelStore, S: Shelf> DictionaryCalls for Dictionary<M, L, S
     }
 
     fn find(&self, tag: &[u8]) -> Result<Found<S::Value>, Refusal> {
-        self.opened?;
+        self.opened.or(Err(Refusal::UnfitParts))?;
         let tag = Tag::try_from(tag)?;
         let mut form = [0; 201];
         let len = tag.spell_into(&mut form);
@@ -127,7 +127,7 @@ impl<M: NodeMap, L: LabelStore, S: Shelf> DictionaryCalls for Dictionary<M, L, S
     }
 
     fn spell(&self, ticket: u32, buffer: &mut [u8]) -> Result<usize, Refusal> {
-        self.opened?;
+        self.opened.or(Err(Refusal::UnfitParts))?;
         if !is_ticket(&self.parts.map, &self.parts.store, ticket) {
             return Err(Refusal::NoSuchTicket);
         }
@@ -142,7 +142,7 @@ impl<M: NodeMap, L: LabelStore, S: Shelf> DictionaryCalls for Dictionary<M, L, S
     }
 
     fn double(&mut self) -> Result<u32, Refusal> {
-        self.opened?;
+        self.opened.or(Err(Refusal::UnfitParts))?;
         self.parts.map.double().map_err(Refusal::NoNextRoom)
     }
 }

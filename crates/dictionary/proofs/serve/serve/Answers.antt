@@ -1,4 +1,4 @@
-use Rattle.std.proofs.Common.{sym, ap, ◌∙◌, inl, inr}
+use Rattle.std.proofs.Common.{is_ok, sym, ap, ◌∙◌, inl, inr}
 use Rattle.dictionary.proofs.Alike.{served}
 use Rattle.dictionary.proofs.Fresh.{open_cases}
 use Rattle.dictionary.proofs.serve.serve.Goals as goal
@@ -11,7 +11,7 @@ returns-clause-ran g c = record {
       served _ _ _ _ _ _ _ _ _ _ (c.run.ensures.ran _ (opened, sh)) (c.run.ensures.shows _ (opened, sh)).1;
   refused = λ e.
       let opened = c.new-d.ensures.opened ∙ e in
-      let r = c.run.ensures.unfit opened in
+      let r = c.run.ensures.unfit (ap is_ok opened) in
       (r.1, ap (λ d. d.parts) r.0 ∙ c.new-d.ensures.kept opened);
   stays = c.run.ensures.stays ∙ c.new-d.ensures.stays;
 }
@@ -19,5 +19,5 @@ returns-clause-ran g c = record {
 pub returns-clause-opened : goal.returns-clause-opened
 returns-clause-opened g c = elim (open_cases (g.M.NodeMap.meaning c.args.parts.map) (g.L.LabelStore.meaning c.args.parts.store) (g.S.Shelf.meaning c.args.parts.shelf)) [
   | inl e ↦ let opened = c.new-d.ensures.opened ∙ e in (c.run.ensures.shows _ (opened, c.new-d.ensures.shows opened)).0 ∙ sym e
-  | inr e ↦ let opened = c.new-d.ensures.opened ∙ e in ap (λ d. d.opened) (c.run.ensures.unfit opened).0 ∙ c.new-d.ensures.opened
+  | inr e ↦ let opened = c.new-d.ensures.opened ∙ e in ap (λ d. d.opened) (c.run.ensures.unfit (ap is_ok opened)).0 ∙ c.new-d.ensures.opened
 ]

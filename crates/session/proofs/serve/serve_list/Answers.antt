@@ -1,4 +1,4 @@
-use Rattle.std.proofs.Common.{rules, sym, ap, ◌∙◌, inl, inr}
+use Rattle.std.proofs.Common.{is_ok, rules, sym, ap, ◌∙◌, inl, inr}
 use Rattle.rules.specs.Tree.{bytes_in}
 use Rattle.parts.specs.Maps.{count_of}
 use Rattle.dictionary.proofs.Fresh.{open_cases}
@@ -21,7 +21,7 @@ returns-clause-served g c =
       finds = finds_true _ _ (fresh_sound (g.M.NodeMap.meaning c.args.parts.map) (g.L.LabelStore.meaning c.args.parts.store));
       refused = λ e.
           let unfit = opens.opened ∙ e in
-          let same = ran.unfit unfit in
+          let same = ran.unfit (ap is_ok unfit) in
           let map = ap (λ d. d.parts.map) same.0 ∙ opens.parts.0 in
           let store = ap (λ d. d.parts.store) same.0 ∙ opens.parts.1 in (
             printed_with same.1 c.put_totals.ensures o.bytes o.start (search rules) c.count.ensures (c.nodes.ensures ∙ ap (λ m. count_of (g.M.NodeMap.meaning m)) map) (c.label_bytes.ensures ∙ ap (λ l. bytes_in (g.L.LabelStore.meaning l).labels) store),
@@ -33,5 +33,5 @@ returns-clause-served g c =
 pub returns-clause-opened : goal.returns-clause-opened
 returns-clause-opened g c = elim (open_cases (g.M.NodeMap.meaning c.args.parts.map) (g.L.LabelStore.meaning c.args.parts.store) (g.S.Shelf.meaning c.args.parts.shelf)) [
   | inl e ↦ let opened = c.new-d.ensures.opened ∙ e in (c.put_lines.ensures.next _ (opened, c.new-d.ensures.shows opened)).0 ∙ sym e
-  | inr e ↦ let opened = c.new-d.ensures.opened ∙ e in ap (λ d. d.opened) (c.put_lines.ensures.unfit opened).0 ∙ c.new-d.ensures.opened
+  | inr e ↦ let opened = c.new-d.ensures.opened ∙ e in ap (λ d. d.opened) (c.put_lines.ensures.unfit (ap is_ok opened)).0 ∙ c.new-d.ensures.opened
 ]

@@ -1,4 +1,4 @@
-use Rattle.std.proofs.Common.{ℕ, Some, set, ap, ◌∙◌, arith}
+use Rattle.std.proofs.Common.{ℕ, Some, set, ap, ◌∙◌, rules, arith}
 use Rattle.std.proofs.lemmas.Result.{err_from_is_err_and}
 use Rattle.dictionary.proofs.Checked.{read}
 use Rattle.dictionary.proofs.Finding.{asked}
@@ -65,10 +65,10 @@ returns-clause-answer g c = λ b sh.
     let form = read c.args.tag.now _ _ _ _ c.in_ok-tag.ensures c.spell_into-len.ensures.bytes c.spell_into-len.ensures.len in
     elim c.match-look.branch [
       | in-Ok+in-None w ↦
-          let put = rw w.self-is at c.put-2.ensures.next ∙ ap (λ (n : ℕ). set (g.S.Shelf.meaning c.args.self.now.parts.shelf) n (Some c.args.value)) w.node-is in
+          let put = rw w.self-is at c.put-2.ensures.next ∙ ap (λ (n : ℕ). set (g.S.Shelf.meaning c.args.self.now.parts.shelf) n (Some c.args.value)) {y = w.in-Ok.node} (search rules) in
           rw w.node-is (did_again _ _ _ b sh.1 c.look.ensures.facts c.args.tag.now form.0 c.args.value _ form.1 (omega arith) _ c.look.ensures.looked _ w.in-Ok.is w.in-None.ensures _ put).says
       | in-Err+in_ok-check_room-in-Err w ↦
-          let put = rw w.self-is at c.put-2.ensures.next ∙ ap (λ (n : ℕ). set (g.S.Shelf.meaning c.args.self.now.parts.shelf) n (Some c.args.value)) w.node-is in
+          let put = rw w.self-is at c.put-2.ensures.next ∙ ap (λ (n : ℕ). set (g.S.Shelf.meaning c.args.self.now.parts.shelf) n (Some c.args.value)) {y = w.grow-node.result} (search rules) in
           let room = w.in_ok-check_room-in-Err.ensures.answer in
           let can = can_grow _ _ _ b sh.1 c.look.ensures.facts c.args.tag.now form.0 c.args.value _ form.1 (omega arith) _ c.look.ensures.looked _ w.in-Err.is room (c.look.ensures.opened (asked _ _ _ b sh.1 c.args.tag.now form.0 _ form.1 (omega arith))) c.look.ensures.bounded in
           rw w.node-is (did_new _ _ _ b sh.1 c.look.ensures.facts c.args.tag.now form.0 c.args.value _ form.1 (omega arith) _ c.look.ensures.looked _ w.in-Err.is room _ _ _ (w.grow-node.ensures.grown can) _ put).says
@@ -79,10 +79,10 @@ returns-clause-next g c = λ b sh.
     let form = read c.args.tag.now _ _ _ _ c.in_ok-tag.ensures c.spell_into-len.ensures.bytes c.spell_into-len.ensures.len in
     elim c.match-look.branch [
       | in-Ok+in-None w ↦
-          let put = rw w.self-is at c.put-2.ensures.next ∙ ap (λ (n : ℕ). set (g.S.Shelf.meaning c.args.self.now.parts.shelf) n (Some c.args.value)) w.node-is in
+          let put = rw w.self-is at c.put-2.ensures.next ∙ ap (λ (n : ℕ). set (g.S.Shelf.meaning c.args.self.now.parts.shelf) n (Some c.args.value)) {y = w.in-Ok.node} (search rules) in
           rw w.self-is (sh.0, (did_again _ _ _ b sh.1 c.look.ensures.facts c.args.tag.now form.0 c.args.value _ form.1 (omega arith) _ c.look.ensures.looked _ w.in-Ok.is w.in-None.ensures _ put).shows)
       | in-Err+in_ok-check_room-in-Err w ↦
-          let put = rw w.self-is at c.put-2.ensures.next ∙ ap (λ (n : ℕ). set (g.S.Shelf.meaning c.args.self.now.parts.shelf) n (Some c.args.value)) w.node-is in
+          let put = rw w.self-is at c.put-2.ensures.next ∙ ap (λ (n : ℕ). set (g.S.Shelf.meaning c.args.self.now.parts.shelf) n (Some c.args.value)) {y = w.grow-node.result} (search rules) in
           let room = w.in_ok-check_room-in-Err.ensures.answer in
           let can = can_grow _ _ _ b sh.1 c.look.ensures.facts c.args.tag.now form.0 c.args.value _ form.1 (omega arith) _ c.look.ensures.looked _ w.in-Err.is room (c.look.ensures.opened (asked _ _ _ b sh.1 c.args.tag.now form.0 _ form.1 (omega arith))) c.look.ensures.bounded in
           rw w.self-is (sh.0, (did_new _ _ _ b sh.1 c.look.ensures.facts c.args.tag.now form.0 c.args.value _ form.1 (omega arith) _ c.look.ensures.looked _ w.in-Err.is room _ _ _ (w.grow-node.ensures.grown can) _ put).shows)
