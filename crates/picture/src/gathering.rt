@@ -9,7 +9,7 @@ use std::alloc::{AllocError, Global};
 // How a node hangs below its parent.
 #[derive(Clone, Copy)]
 pub(crate) struct Edge {
-    pub(crate) parent: usize,
+    pub(crate) parent: u32,
     pub(crate) symbol: u16,
 }
 
@@ -29,44 +29,38 @@ impl Edge {
     }
 }
 
-// A node with its label, the amount that its row holds, and the nodes that hang below it. Only node 0 has no edge, and
-// it has no label before a tag is entered.
+// A node with its label, the amount that its row holds, the first node that hangs below it, and the next below the same
+// parent. Only node 0 has no edge, and it has no label before a tag is entered.
 #[derive(Drop)]
 pub(crate) struct Node {
-    pub(crate) number: usize,
     pub(crate) edge: Option<Edge>,
     pub(crate) label: Option<Vec<u8>>,
     pub(crate) amount: Option<u32>,
-    pub(crate) children: Vec<Node>,
+    pub(crate) first: Option<u32>,
+    pub(crate) next: Option<u32>,
 }
 
 impl Node {
     pub(crate) fn is_step(&self) -> bool {
         self.edge.is_some_and(|edge| edge.is_step())
     }
-
-    // The edge of the node with this number, here or below.
-    pub(crate) fn edge_of(&self, number: usize) -> Option<Edge> {
-        if self.number == number {
-            return self.edge;
-        }
-        // A loop, since the proof that a recursion through the closure of `find_map` ends did not close.
-        for child in &self.children {
-            if let Some(edge) = child.edge_of(number) {
-                return Some(edge);
-            }
-        }
-        None
-    }
 }
 
-// What a run leaves: how many nodes and label bytes there are, the current room, and the nodes from node 0 down.
+// What a run leaves: how many label bytes there are, the current room, and the nodes in number order. They lie in a list and
+// name one another by number: nodes that own those below them are dropped by a recursion as deep as the tree, take more
+// memory, and are found by number only by a walk.
 #[derive(Drop)]
 pub(crate) struct Tree {
-    pub(crate) count: u32,
     pub(crate) label_bytes: u32,
     pub(crate) room: u32,
-    pub(crate) root: Option<Node>,
+    pub(crate) nodes: Vec<Node>,
+}
+
+impl Tree {
+    // The edge of the node with this number.
+    pub(crate) fn edge_of(&self, number: usize) -> Option<Edge> {
+        self.nodes.get(number)?.edge
+    }
 }
 
 // Runs a list on a dictionary over these parts. What is printed for it is not kept.
@@ -81,14 +75,14 @@ pub(crate) fn run_on<M: NodeMap + Drop, L: LabelStore + Drop, S: Shelf<Value = u
 ) -> Result<Tree, AllocError> {
     let (dictionary, _) = serve_list(Parts { map, store, shelf }, text, &mut []);
     let parts = dictionary.into_parts();
-    let nodes = (0..parts.map.count())
+    let mut nodes: Vec<Node> = (0..parts.map.count())
         .map(|v| node_of(heap, &parts, v))
         .try_collect(heap)?;
+    hang(&mut nodes, parts.map.count());
     Ok(Tree {
-        count: parts.map.count(),
         label_bytes: parts.store.total(),
         room: parts.map.room(),
-        root: hung(nodes)?,
+        nodes,
     })
 }
 
@@ -100,20 +94,17 @@ fn node_of<M: NodeMap, L: LabelStore, S: Shelf<Value = u32>>(
 ) -> Result<Node, AllocError> {
     let Parts { map, store, shelf } = parts;
     Ok(Node {
-        number: v as usize,
         edge: edge_of(map, v),
         label: label_of(heap, store, v)?,
         amount: shelf.get(v).unwrap_or(None),
-        children: Vec::new(heap),
+        first: None,
+        next: None,
     })
 }
 
 fn edge_of<M: NodeMap>(map: &M, v: u32) -> Option<Edge> {
     let (parent, symbol) = map.up(v).ok()?;
-    Some(Edge {
-        parent: parent as usize,
-        symbol,
-    })
+    Some(Edge { parent, symbol })
 }
 
 fn label_of<L: LabelStore>(heap: Global, store: &L, v: u32) -> Result<Option<Vec<u8>>, AllocError> {
@@ -124,16 +115,18 @@ fn label_of<L: LabelStore>(heap: Global, store: &L, v: u32) -> Result<Option<Vec
     Ok(Some(bytes.collect(heap)?))
 }
 
-// Hangs each node, the last first, below its parent, which has a smaller number; node 0 is left.
-fn hung(mut nodes: Vec<Node>) -> Result<Option<Node>, AllocError> {
-    while let Some(mut node) = nodes.pop() {
-        node.children.reverse();
-        let Some(edge) = node.edge else {
-            return Ok(Some(node));
+// Hangs each node, the last first, in front of those that hang below its parent already, so that they rise by number.
+fn hang(nodes: &mut [Node], count: u32) {
+    for v in (0..count).rev() {
+        let Some(edge) = nodes.get(v as usize).and_then(|node| node.edge) else {
+            continue;
         };
-        if let Some(parent) = nodes.get_mut(edge.parent) {
-            parent.children.push(node)?;
+        let Some(parent) = nodes.get_mut(edge.parent as usize) else {
+            continue;
+        };
+        let next = parent.first.replace(v);
+        if let Some(node) = nodes.get_mut(v as usize) {
+            node.next = next;
         }
     }
-    Ok(None)
 }

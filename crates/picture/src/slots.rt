@@ -1,5 +1,5 @@
 use crate::gathering::{Edge, Tree};
-use std::alloc::{AllocError, Global};
+use std::alloc::AllocError;
 use std::fmt;
 
 // The map's bytes have two sets of slots, and one of them is in use.
@@ -26,19 +26,12 @@ struct Table<'a> {
     count: usize,
 }
 
-// A slot by its place, and what it holds where it is taken.
-#[derive(Clone, Copy)]
-struct Slot {
-    place: usize,
-    taken: Option<Taken>,
-}
-
 // What a taken slot holds.
 #[derive(Clone, Copy)]
 struct Taken {
-    quotient: u64,
-    displacement: usize,
-    node: usize,
+    quotient: u16,
+    displacement: u16,
+    node: u16,
 }
 
 // The map's own reader of its slots is private to its crate; this one reads the layout as it is written there.
@@ -48,9 +41,9 @@ fn taken_in(word: u64) -> Option<Taken> {
         return None;
     }
     Some(Taken {
-        quotient: (word >> 34) % 8_192,
-        displacement: ((word >> 19) % 32_768) as usize,
-        node: ((word >> 4) % 32_768) as usize,
+        quotient: ((word >> 34) % 8_192) as u16,
+        displacement: ((word >> 19) % 32_768) as u16,
+        node: ((word >> 4) % 32_768) as u16,
     })
 }
 
@@ -81,18 +74,6 @@ impl<'a> Table<'a> {
         }
     }
 
-    fn slots(&self, heap: Global) -> Result<Vec<Slot>, AllocError> {
-        self.bytes
-            .chunks_exact(6)
-            .take(self.count)
-            .enumerate()
-            .map(|(place, bytes)| Slot {
-                place,
-                taken: taken_in(word_of(bytes)),
-            })
-            .collect(heap)
-    }
-
     // Where a node in this place would have liked to be.
     fn home_of(&self, place: usize, displacement: usize) -> usize {
         place
@@ -113,7 +94,7 @@ impl<'a> Table<'a> {
             displacement,
             node,
         } = taken;
-        let home = self.home_of(place, displacement);
+        let home = self.home_of(place, usize::from(displacement));
         write!(
             out,
             "{place:>9}  {home:>4}  {displacement:>12}  {quotient:>8}  {node:>4}"
@@ -139,9 +120,12 @@ fn put_empty(out: &mut String, from: usize, to: usize) -> Result<(), AllocError>
 
 pub(crate) fn put_slots(out: &mut String, tree: &Tree, lent: &[u8]) -> Result<(), AllocError> {
     let table = Table::of(lent, tree.room);
-    let slots = table.slots(*out.allocator())?;
-    let taken = slots.iter().filter(|slot| slot.taken.is_some()).count();
-    let Table { set, count, .. } = table;
+    let Table { set, bytes, count } = table;
+    let taken = bytes
+        .chunks_exact(6)
+        .take(count)
+        .filter(|slot| taken_in(word_of(slot)).is_some())
+        .count();
     writeln!(
         out,
         "The table: {taken} of the {count} slots in use are taken, in the {set} set.\n"
@@ -150,17 +134,21 @@ pub(crate) fn put_slots(out: &mut String, tree: &Tree, lent: &[u8]) -> Result<()
         out,
         "     slot  home  displacement  quotient  node  parent  edge"
     )?;
-    for run in slots.chunk_by(|a, b| a.taken.is_none() && b.taken.is_none()) {
-        let (Some(first), Some(last)) = (run.first(), run.last()) else {
+    // Where the empty slots begin that were not drawn yet. The slots are read as they are drawn, and not kept: a list of them
+    // would be larger than a small tree.
+    let mut empty_from: Option<usize> = None;
+    for (place, slot) in bytes.chunks_exact(6).take(count).enumerate() {
+        let Some(taken) = taken_in(word_of(slot)) else {
+            empty_from = empty_from.or(Some(place));
             continue;
         };
-        match first.taken {
-            Some(taken) => {
-                let edge = tree.root.as_ref().and_then(|root| root.edge_of(taken.node));
-                table.put_taken(out, first.place, taken, edge)?;
-            }
-            None => put_empty(out, first.place, last.place)?,
+        if let Some(from) = empty_from.take() {
+            put_empty(out, from, place.saturating_sub(1))?;
         }
+        table.put_taken(out, place, taken, tree.edge_of(usize::from(taken.node)))?;
+    }
+    if let Some(from) = empty_from {
+        put_empty(out, from, count.saturating_sub(1))?;
     }
     out.push('\n')
 }
