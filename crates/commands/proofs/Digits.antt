@@ -1,29 +1,43 @@
--- what is parsed of digits is the number of the definitions
-use Rattle.std.proofs.Common.{◌≡◌, ℕ, ◌≤◌, true, false, List, [], ◌∷◌, length, Bool, cond, nat_lt, ◌==◌, Some, None, Option, Ok, Err, Result, MatchResult, Bor, refl, rules, tests, arith}
+-- what digits are taken in as is the number of the definitions
+use Rattle.std.proofs.Common.{◌≡◌, ℕ, suc, ◌+◌, ◌-◌, ◌*◌, ◌%◌, ◌^◌, ◌<◌, ◌≤◌, true, false, List, [], ◌∷◌, length, Bool, cond, nat_lt, ◌==◌, None, Option, Ok, Err, Result, rules, tests, refl, ap, ◌∙◌, arith}
+use native.Mathlib.Nat.{pow-succ', pow-le-pow_right}
 use Rattle.std.proofs.lemmas.Bool.{and_parts}
-use Rattle.std.proofs.lemmas.Str.{IsUtf8-from_ascii}
-use Rattle.std.proofs.lemmas.Str.Ascii.{IsAscii-nil, IsAscii-cons}
-use Rattle.std.proofs.lemmas.Str.Parse.{IsNumeralModel, numerals_by_fold, parse_digits}
+use Rattle.std.proofs.lemmas.Bool.Decides.{nat_tests}
 use Rattle.std.specs.Char.{is_ascii_digit}
-use Rattle.std.specs.Result.{result_ok}
-use Rattle.std.specs.Str.{IsAscii, IsUtf8}
-use Rattle.std.specs.Str.Parse.{ParsesUnsigned}
+use Rattle.std.specs.List.{fold}
+use Rattle.std.specs.Result.{result_ok, OkIff}
 use Rattle.commands.specs.Numbers.{all_digits, decimal, decimal_from, number}
 
-own : IsNumeralModel (λ ds. all_digits ds ≡ true) decimal
-own = numerals_by_fold _ (search rules) decimal_from (search rules)
+-- a digit more, as the code takes it in
+abbrev pub taken_in : ℕ → ℕ → ℕ
+taken_in n d = (n * 10 % 2 ^ 64 + (d + 2 ^ 8 - 48) % 2 ^ 8) % 2 ^ 64
 
-ascii : (text : List ℕ) → all_digits text ≡ true → IsAscii text
-ascii [] h = IsAscii-nil
-ascii (b ∷ text) h = let p = and_parts (is_ascii_digit b) (all_digits text) h in IsAscii-cons b text (let d = p.0 in grind (arith, tests)) (ascii text p.1)
+taken_in_is : (n d : ℕ) → n < 10 ^ 10 → is_ascii_digit d ≡ true → taken_in n d ≡ 10 * n + (d - 48)
+taken_in_is n d h e = grind (arith, nat_tests)
 
-pub digits_are_text : (text : List ℕ) → all_digits text ≡ true → IsUtf8 text
-digits_are_text text h = IsUtf8-from_ascii text (ascii text h)
+-- with so many digits to come there are so few before
+taken_all : (k n : ℕ) (text : List ℕ) → k + length text ≤ 10 → n < 10 ^ k → all_digits text ≡ true → fold taken_in n text ≡ decimal_from n text
+taken_all k n [] s h e = refl
+taken_all k n (d ∷ text) s h e =
+    let p = and_parts (is_ascii_digit d) (all_digits text) e in
+    let l : k ≤ 10 = omega arith in
+    let m : 10 ^ k ≤ 10 ^ 10 = pow-le-pow_right (omega arith) l in
+    let z = taken_in_is n d (omega arith) p.0 in
+    ap (λ (x : ℕ). fold taken_in x text) z ∙ taken_all (suc k) (10 * n + (d - 48)) text (omega arith) (more k n d h p.0) p.1
+  where
+    more : (k n d : ℕ) → n < 10 ^ k → is_ascii_digit d ≡ true → 10 * n + (d - 48) < 10 ^ suc k
+    more k n d h e = let q : d - 48 ≤ 9 = grind (arith, nat_tests) in omega (arith, pow-succ' 10 k)
 
-pub parsed : {E : Type 0} (text s : List ℕ) (r : Result ℕ E) → length text ≤ 10 → all_digits text ≡ true → s ≡ text → ParsesUnsigned 32 10 s r → result_ok r ≡ number text
+-- at most ten digits are the number that they are taken in as, where it has 32 bits
+pub read : {E : Type 0} (text : List ℕ) (value : ℕ) (r : Result ℕ E) → (length text == 0) ≡ false → length text ≤ 10 → all_digits text ≡ true
+    → value ≡ fold taken_in 0 text → OkIff r (value < 4294967296) value → result_ok r ≡ number text
 unfolding number
-parsed {E} text s (Ok n) h d e p = let k = parse_digits own {E = E} 32 text (Ok n) (rw e at p) d in search rules
-parsed {E} text s (Err why) h d e p = let k = parse_digits own {E = E} 32 text (Err why) (rw e at p) d in search rules
+read text value (Ok n) z h e is o =
+    let d : value ≡ decimal text = is ∙ taken_all 0 0 text (omega arith) (omega arith) e in
+    search (rules, tests)
+read text value (Err why) z h e is o =
+    let d : value ≡ decimal text = is ∙ taken_all 0 0 text (omega arith) (omega arith) e in
+    search (rules, tests)
 
 -- other bytes than digits are no number
 pub no_number : (text : List ℕ) → all_digits text ≡ false → None ≡ number text
@@ -34,13 +48,3 @@ no_number text e = rw e (none (length text == 0) (nat_lt 10 (length text)))
     none true c = refl
     none false true = refl
     none false false = refl
-
--- bytes that are text are read as that text
-module _ {E : Type 0} (Why : E → Type 0) {bytes : List ℕ} where
-  pub same_text : (r : Result (Bor (List ℕ)) E) (s : Bor (List ℕ)) → MatchResult r (λ x. (x.now ≡ bytes) × IsUtf8 bytes) (λ e. (IsUtf8 bytes → ⊥) × Why e) → Some s ≡ result_ok r → s.now ≡ bytes
-  same_text (Ok x) s m e = search rules
-  same_text (Err e) s m n = search rules
-
-  pub read_as_text : (r : Result (Bor (List ℕ)) E) → MatchResult r (λ x. (x.now ≡ bytes) × IsUtf8 bytes) (λ e. (IsUtf8 bytes → ⊥) × Why e) → IsUtf8 bytes → None ≡ result_ok r → ⊥
-  read_as_text (Ok x) m u e = search rules
-  read_as_text (Err e) m u n = m.0 u

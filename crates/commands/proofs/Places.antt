@@ -1,8 +1,9 @@
 -- the first place of a byte, and the lines that it cuts
-use Rattle.std.proofs.Common.{◌≡◌, ℕ, suc, ◌+◌, ◌<◌, ◌⊎◌, true, false, eqb, List, [], ◌∷◌, length, take, drop, MatchOption, Some, None, Option, unwrap_or, Bor, nat_eq, sym, refl, ap, ◌∙◌, inl, inr, arith, add-one}
-use Rattle.std.proofs.lemmas.Bool.{cases_eq, eq-eqb, ne_eqb, eqb-true, eqb-false, true≢false}
-use Rattle.std.proofs.Math.Seq.{drop-nil}
-use Rattle.std.specs.Cmp.Lexicographic.{pointwise}
+use Rattle.std.proofs.Common.{◌≡◌, ℕ, suc, ◌+◌, ◌<◌, true, false, eqb, List, [], ◌∷◌, length, take, drop, Some, None, Option, unwrap_or, Bor, sym, refl, ap, ◌∙◌, inl, inr, arith, add-one}
+use Rattle.std.proofs.lemmas.Bool.{cases_eq, eq-eqb, ne_eqb, eqb-true, eqb-false}
+use Rattle.std.proofs.lemmas.List.{drop_all}
+use Rattle.std.proofs.lemmas.Slice.{between_to_end}
+use Rattle.std.specs.Slice.{IsGetRangeResult}
 use Rattle.commands.specs.Lines.{place_of, in_front, lines}
 
 pub place_nil : (byte : ℕ) → place_of byte [] ≡ 0
@@ -46,28 +47,14 @@ cut_line (b ∷ c ∷ text) p e h = elim (cases_eq b 10) [
       rw k (lines_on b (c ∷ text) n ∙ ap (in_front b) (cut_line (c ∷ text) (place_of 10 (c ∷ text)) refl (omega arith)))
 ]
 
--- that byte stands there, or nothing does
-stands : (text : List ℕ) (p : ℕ) → p ≡ place_of 10 text → (drop p text ≡ []) ⊎ ((more : List ℕ) × (drop p text ≡ 10 ∷ more))
-stands [] p e = inl (drop-nil p)
-stands (b ∷ text) p e = elim (cases_eq b 10) [
-  | inl z ↦ let k : p ≡ 0 = e ∙ place_here 10 b text z in rw k (inr (text, ap (λ (x : ℕ). x ∷ text) z))
-  | inr n ↦ let k : p ≡ suc (place_of 10 text) = e ∙ place_on 10 b text n ∙ add-one (place_of 10 text) in rw k (stands text (place_of 10 text) refl)
-]
-
 -- what follows the end of the first line, as the code has it
-pub first_cut : (text front : List ℕ) (left rest : Bor (List ℕ)) (p : ℕ) (r : Option (Bor (List ℕ))) → p ≡ place_of 10 text → false ≡ eqb (length text) 0 → front ≡ take p text → left.now ≡ drop p text
-    → MatchOption r (pointwise nat_eq (take 1 left.now) (10 ∷ []) ≡ false) (λ x. (pointwise nat_eq (take 1 left.now) (10 ∷ []) ≡ true) × (x.now ≡ drop 1 left.now) × (length x.now + 1 ≡ length left.now))
-    → rest ≡ unwrap_or r left → lines text ≡ front ∷ lines rest.now
-first_cut text front left rest p r e n f l m u =
-    let z : length text ≡ 0 → ⊥ = eqb-false (length text) 0 (sym n) in
+pub first_cut : (text front left : List ℕ) (rest none : Bor (List ℕ)) (p : ℕ) (r : Option (Bor (List ℕ))) → p ≡ place_of 10 text → false ≡ eqb (length text) 0 → front ≡ take p text → left ≡ drop p text
+    → IsGetRangeResult left 1 (length left) r → none.now ≡ [] → rest ≡ unwrap_or r none → lines text ≡ front ∷ lines rest.now
+first_cut text front left rest none p r e n f l m z u =
+    let long : length text ≡ 0 → ⊥ = eqb-false (length text) 0 (sym n) in
     cut_line text p e (omega arith) ∙ ap (λ (xs : List ℕ). xs ∷ lines (drop 1 (drop p text))) (sym f)
     ∙ ap (λ (xs : List ℕ). front ∷ lines (drop 1 xs)) (sym l) ∙ ap (λ (xs : List ℕ). front ∷ lines xs) (sym (behind r m u))
   where
-    behind : (o : Option (Bor (List ℕ)))
-        → MatchOption o (pointwise nat_eq (take 1 left.now) (10 ∷ []) ≡ false) (λ x. (pointwise nat_eq (take 1 left.now) (10 ∷ []) ≡ true) × (x.now ≡ drop 1 left.now) × (length x.now + 1 ≡ length left.now))
-        → rest ≡ unwrap_or o left → rest.now ≡ drop 1 left.now
-    behind (Some x) m u = ap (λ (b : Bor (List ℕ)). b.now) u ∙ m.1
-    behind None m u = ap (λ (b : Bor (List ℕ)). b.now) u ∙ elim (stands text p e) [
-      | inl z ↦ let q : left.now ≡ [] = l ∙ z in q ∙ ap (drop 1) (sym q)
-      | inr s ↦ let q : left.now ≡ 10 ∷ s.0 = l ∙ s.1 in absurd (true≢false (rw q at m))
-    ]
+    behind : (o : Option (Bor (List ℕ))) → IsGetRangeResult left 1 (length left) o → rest ≡ unwrap_or o none → rest.now ≡ drop 1 left
+    behind (Some x) m u = ap (λ (b : Bor (List ℕ)). b.now) u ∙ m.0.2 ∙ between_to_end left 1 (length left) (omega arith)
+    behind None m u = ap (λ (b : Bor (List ℕ)). b.now) u ∙ z ∙ sym (drop_all 1 left (grind (arith, m.0)))

@@ -18,7 +18,7 @@ fn first_line(text: &[u8]) -> Option<(&[u8], &[u8])>
         return None;
     }
     let (line, rest) = text.split_at(place_of(b'\n', text));
-    Some((line, rest.strip_prefix(b"\n").unwrap_or(rest)))
+    Some((line, rest.get(1..).unwrap_or(&[])))
 }
 
 // The lines of a text, one by one. A line ends with byte 10, which the last may lack.

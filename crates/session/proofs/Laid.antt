@@ -1,5 +1,5 @@
 -- texts laid over bytes, one behind another
-use Rattle.std.proofs.Common.{◌≡◌, ℕ, zero, suc, ◌+◌, ◌-◌, ◌^◌, ◌≤◌, min, List, [], ◌∷◌, ◌++◌, length, take, drop, sym, refl, ap, ◌∙◌, inl, inr, append-nil, arith, length-append, length-drop, length-take}
+use Rattle.std.proofs.Common.{◌≡◌, ℕ, zero, suc, ◌+◌, ◌-◌, ◌^◌, ◌<◌, ◌≤◌, min, List, [], ◌∷◌, ◌++◌, length, take, drop, sym, refl, ap, ◌∙◌, inl, inr, append-nil, arith, length-append, length-drop, length-take}
 use borrow.Rule.Slice.PartMut.{put_mid}
 use Rattle.std.proofs.lemmas.List.{take_all, drop_all}
 use Rattle.std.proofs.lemmas.Bool.{cases_lt}
@@ -82,15 +82,15 @@ joined {o} {o'} {o''} {text} {more} first second =
       count = second.count ∙ omega (arith, first.count, length-append text more);
     }
 
--- a part of the bytes, written over, from the place on or from their end
-pub put_within : (out text part : List ℕ) (at start n k : ℕ) → start ≡ min at (length out) → n ≡ min (length text) (length out - start) → k ≡ n → part ≡ take n text
-    → put_mid start k out part ≡ take at out ++ over text (drop at out)
-put_within out text part at start n k s e same is =
-    let m : n ≡ min (length text) (length (drop start out)) = omega (arith, length-drop start out) in
-    ap (λ (j : ℕ). put_mid start j out part) same
-    ∙ ap (λ (xs : List ℕ). take start out ++ (xs ++ drop n (drop start out))) is
-    ∙ ap (λ (xs : List ℕ). take start out ++ xs) (sym (over_is text (drop start out) n m))
-    ∙ elim (cases_lt at (length out)) [
-      | inl h ↦ (let z : start ≡ at = omega arith in ap (λ (j : ℕ). laid j text out) z)
-      | inr h ↦ laid_beyond start text out (omega arith) ∙ sym (laid_beyond at text out h)
-    ]
+-- a part of the bytes, written over
+pub put_within : (out text part : List ℕ) (at n k : ℕ) → at < length out → n ≡ min (length text) (length out - at) → k ≡ n → part ≡ take n text
+    → put_mid at k out part ≡ take at out ++ over text (drop at out)
+put_within out text part at n k h e same is =
+    let m : n ≡ min (length text) (length (drop at out)) = omega (arith, length-drop at out) in
+    ap (λ (j : ℕ). put_mid at j out part) same
+    ∙ ap (λ (xs : List ℕ). take at out ++ (xs ++ drop n (drop at out))) is
+    ∙ ap (λ (xs : List ℕ). take at out ++ xs) (sym (over_is text (drop at out) n m))
+
+-- nothing fits behind their end
+pub put_beyond : (out text : List ℕ) (at : ℕ) → length out ≤ at → out ≡ take at out ++ over text (drop at out)
+put_beyond out text at h = sym (laid_beyond at text out h)

@@ -34,9 +34,10 @@ impl<'a> Output<'a> {
     pub(crate) fn put(&mut self, text: &[u8])
         ensures { Wrote self.old text.now self.new }
     {
-        let start = self.at.min(self.out.len());
-        let n = text.len().min(self.out.len() - start);
-        self.out[start..start + n].copy_from_slice(&text[..n]);
+        if self.at < self.out.len() {
+            let n = text.len().min(self.out.len() - self.at);
+            self.out[self.at..self.at + n].copy_from_slice(&text[..n]);
+        }
         self.at = self.at.saturating_add(text.len());
     }
 
