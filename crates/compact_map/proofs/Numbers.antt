@@ -19,7 +19,7 @@ unfolding number_at
 number_more bs at count = ap (number_at bs at) (let e : count + 1 ≡ suc count = omega arith in e)
 
 -- one byte more
-grown_lt : (x b j : ℕ) → x < 2 ^ (8 * j) → b < 256 → x * 256 + b < 2 ^ (8 * (j + 1))
+pub grown_lt : (x b j : ℕ) → x < 2 ^ (8 * j) → b < 256 → x * 256 + b < 2 ^ (8 * (j + 1))
 grown_lt x b j h g =
     let e : 2 ^ (8 * (j + 1)) ≡ 2 ^ (8 * j) * 2 ^ 8 = ap (λ (y : ℕ). 2 ^ y) (let s : 8 * (j + 1) ≡ 8 * j + 8 = omega arith in s) ∙ pow-add 2 (8 * j) 8 in
     omega arith

@@ -36,7 +36,7 @@ module _ (l : Store) (v : ℕ) where
 abbrev store_of : List (List ℕ) → (byte_room places : ℕ) → Store
 store_of labels byte_room places = record { labels = labels; byte_room = byte_room; places = places }
 
-same_store : (a b : Store) → a.labels ≡ b.labels → a.byte_room ≡ b.byte_room → a.places ≡ b.places → a ≡ b
+pub same_store : (a b : Store) → a.labels ≡ b.labels → a.byte_room ≡ b.byte_room → a.places ≡ b.places → a ≡ b
 same_store a b p q r =
     ap (λ (x : List (List ℕ)). store_of x a.byte_room a.places) p ∙ ap₂ (λ (x y : ℕ). store_of b.labels x y) q r
 

@@ -11,8 +11,8 @@ use Rattle.parts.specs.Stores.{longest}
 use Rattle.label_stores.specs.declared.fill.Fill.{Fill}
 use Rattle.label_stores.specs.Fills.{IsNew}
 use Rattle.label_stores.specs.Sizes.{room_where, plain_takes, grouped_takes}
-use Rattle.label_stores.specs.Spans.{span_at, end_at, plain_labels}
-use Rattle.label_stores.specs.Leads.{head_at, end_from, led_span, grouped_labels}
+use Rattle.label_stores.specs.Spans.{span_at, end_at, plain_labels, Ordered}
+use Rattle.label_stores.specs.Leads.{head_at, end_from, led_span, grouped_labels, ShortLengths}
 use Rattle.label_stores.specs.Sound.{PlainSound, GroupedSound}
 
 -- a part has at most so many bytes
@@ -24,7 +24,11 @@ room_within : (taken : Bool) (n : ℕ) → room_where taken n ≤ n
 room_within true n = omega arith
 room_within false n = omega arith
 
--- the plain layout
+-- the plain layout: a label is short where the starts are in order
+pub plain_label_short : (bytes starts : List ℕ) (n t v : ℕ) → Ordered starts n t → v < n → length (slice_index_or (plain_labels bytes starts n t) v []) ≤ longest
+plain_label_short bytes starts n t v o l =
+    rw (get_or-map-range_with_len (span_at bytes starts n t) 0 n v v [] l (omega arith)) (short_between bytes _ (end_at starts n t v) longest (o v l).2)
+
 module _ (bytes starts : List ℕ) (fill : Fill) where
   pub plain_once : IsProp (PlainSound bytes starts fill)
   plain_once = hlevel props
@@ -36,9 +40,7 @@ module _ (bytes starts : List ℕ) (fill : Fill) where
   plain_summed h = sym h.sum
 
   pub plain_short : PlainSound bytes starts fill → (v : ℕ) → v < fill.count → length (slice_index_or (plain_labels bytes starts fill.count fill.total) v []) ≤ longest
-  plain_short h v l =
-      rw (get_or-map-range_with_len (span_at bytes starts fill.count fill.total) 0 fill.count v v [] l (omega arith))
-      (short_between bytes _ (end_at starts fill.count fill.total v) longest (h.ordered v l).2)
+  plain_short h v l = plain_label_short bytes starts fill.count fill.total v h.ordered l
 
   pub plain_empty : IsNew fill (room_where (plain_takes (length bytes) (length starts)) (length bytes)) (room_where (plain_takes (length bytes) (length starts)) (length starts)) → PlainSound bytes starts fill
   unfolding bytes_in
@@ -53,7 +55,11 @@ module _ (bytes starts : List ℕ) (fill : Fill) where
 rooms_within : (bytes starts : ℕ) → room_where (grouped_takes bytes starts) (bytes - 16 * starts) + room_where (grouped_takes bytes starts) (16 * starts) ≤ bytes
 rooms_within bytes starts = grind (arith, nat_tests)
 
--- the grouped layout
+-- the grouped layout: a label is short where the lengths are
+pub grouped_label_short : (bytes : List ℕ) (n v : ℕ) → ShortLengths bytes n → v < n → length (slice_index_or (grouped_labels bytes n) v []) ≤ longest
+grouped_label_short bytes n v o l =
+    rw (get_or-map-range_with_len (led_span bytes) 0 n v v [] l (omega arith)) (short_between bytes (head_at bytes v + 1) (end_from bytes (head_at bytes v)) longest (omega (arith, o v l)))
+
 module _ (bytes starts : List ℕ) (fill : Fill) where
   pub grouped_once : IsProp (GroupedSound bytes starts fill)
   grouped_once = hlevel props
@@ -65,9 +71,7 @@ module _ (bytes starts : List ℕ) (fill : Fill) where
   grouped_summed h = sym h.sum
 
   pub grouped_short : GroupedSound bytes starts fill → (v : ℕ) → v < fill.count → length (slice_index_or (grouped_labels bytes fill.count) v []) ≤ longest
-  grouped_short h v l =
-      rw (get_or-map-range_with_len (led_span bytes) 0 fill.count v v [] l (omega arith))
-      (short_between bytes (head_at bytes v + 1) (end_from bytes (head_at bytes v)) longest (omega (arith, h.short v l)))
+  grouped_short h v l = grouped_label_short bytes fill.count v h.short l
 
   pub grouped_empty : IsNew fill (room_where (grouped_takes (length bytes) (length starts)) (length bytes - 16 * length starts)) (room_where (grouped_takes (length bytes) (length starts)) (16 * length starts)) → GroupedSound bytes starts fill
   unfolding bytes_in

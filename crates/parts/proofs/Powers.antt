@@ -6,12 +6,12 @@ use Rattle.std.proofs.lemmas.Bool.{cases_eq, eq-eqb, ne_eqb}
 use Rattle.parts.specs.Maps.{last_of, Rising}
 use Rattle.parts.specs.Sizes.{power_from, power_for, PowerOf, rooms_after, rooms_to}
 
-power_here : (t k n part : ℕ) → 0 < t → n ≡ part * 2 ^ k → power_from t k n part ≡ Some k
+pub power_here : (t k n part : ℕ) → 0 < t → n ≡ part * 2 ^ k → power_from t k n part ≡ Some k
 unfolding power_from
 power_here zero k n part z e = absurd (omega arith)
 power_here (suc t) k n part z e = rw (eq-eqb n (part * 2 ^ k) e, power_from) refl
 
-power_past : (t s k next n part : ℕ) → t ≡ suc s → suc k ≡ next → (n ≡ part * 2 ^ k → ⊥)
+pub power_past : (t s k next n part : ℕ) → t ≡ suc s → suc k ≡ next → (n ≡ part * 2 ^ k → ⊥)
     → power_from t k n part ≡ power_from s next n part
 unfolding power_from
 power_past t s k next n part e f z = ap (λ (x : ℕ). power_from x k n part) e ∙ one ∙ ap (λ (x : ℕ). power_from s x n part) f
@@ -19,7 +19,7 @@ power_past t s k next n part e f z = ap (λ (x : ℕ). power_from x k n part) e 
     one : power_from (suc s) k n part ≡ power_from s (suc k) n part
     one = rw (ne_eqb n (part * 2 ^ k) z, power_from) refl
 
-power_none : (t k n part : ℕ) → t ≡ 0 → power_from t k n part ≡ None
+pub power_none : (t k n part : ℕ) → t ≡ 0 → power_from t k n part ≡ None
 unfolding power_from
 power_none zero k n part e = refl
 power_none (suc t) k n part e = absurd (omega arith)
@@ -69,15 +69,15 @@ power_nowhere (suc t) k n part f =
 
 -- how the code tests that n is part * 2 ^ k
 module _ (n part k m : ℕ) (is : m ≡ 2 ^ k) where
-  parts_make : n % m ≡ 0 → n / m ≡ part → n ≡ part * 2 ^ k
+  pub parts_make : n % m ≡ 0 → n / m ≡ part → n ≡ part * 2 ^ k
   parts_make e f =
       let d : n / m * m + n % m ≡ n = div-add-mod' n m in
       let g : n / m * m ≡ part * 2 ^ k = cc in omega arith
 
-  parts_whole : n ≡ part * 2 ^ k → n % m ≡ 0
+  pub parts_whole : n ≡ part * 2 ^ k → n % m ≡ 0
   parts_whole e = let f : n ≡ part * m = cc in ap (λ (x : ℕ). x % m) f ∙ mul-mod_left part m
 
-  parts_many : n ≡ part * 2 ^ k → n / m ≡ part
+  pub parts_many : n ≡ part * 2 ^ k → n / m ≡ part
   parts_many e =
       let f : n ≡ part * m = cc in
       let z : 0 < m = subst (λ (x : ℕ). 0 < x) (sym is) (pow_pos k) in

@@ -13,10 +13,10 @@ use std::alloc::Global;
 use std::cmp::Reverse;
 
 /// The most bytes that a tag has.
-const LONGEST: usize = 200;
+pub const LONGEST: usize = 200;
 
 /// How far into a label one move reaches.
-const STEP: usize = 32;
+pub const STEP: usize = 32;
 
 // `Found` and `Held` are this crate's own, as `Refused` is, so that it shares nothing with what it is compared with.
 

@@ -88,7 +88,7 @@ room bytes = 4 * size_of most_bytes (length bytes)
 bit_count : (bytes : List ℕ) → length (bit_places bytes) ≡ room bytes
 bit_count bytes = first_length bytes (room bytes)
 
-bit_at : (bytes : List ℕ) (n : ℕ) → n < room bytes → place_at bytes n ≡ get_or (bit_places bytes) n None
+pub bit_at : (bytes : List ℕ) (n : ℕ) → n < room bytes → place_at bytes n ≡ get_or (bit_places bytes) n None
 bit_at bytes n h = sym (first_at bytes (room bytes) n None h)
 
 bit_blank : (bytes : List ℕ) → bit_places (bit_new bytes) ≡ blanks (room bytes)

@@ -45,7 +45,7 @@ room list = size_of most_places (length list)
 record_count : {V : Type 0} (list : List (Option V)) → length (record_places list) ≡ room list
 record_count list = count_served (size_taken most_places (length list)) list
 
-record_at : {V : Type 0} (list : List (Option V)) (n : ℕ) → n < room list → get_or list (n / 1) None ≡ get_or (record_places list) n None
+pub record_at : {V : Type 0} (list : List (Option V)) (n : ℕ) → n < room list → get_or list (n / 1) None ≡ get_or (record_places list) n None
 record_at list n h = ap (λ (k : ℕ). get_or list k None) (omega arith) ∙ at_served (size_taken most_places (length list)) list n h
 
 record_blank : {V : Type 0} (list : List (Option V)) → record_places (record_new list) ≡ blanks (room list)
